@@ -5,6 +5,7 @@ use crate::workload::WorkloadError;
 use block_device::MemoryDisk;
 use explain::explain;
 use hart_core::{Event, Outcome, World};
+use image_versions::Version;
 use plain_tree::HARTS;
 use std::alloc::Global;
 
@@ -144,7 +145,8 @@ fn events_on(alloc: Global, image: &[u8]) -> Result<Vec<Event>, WorkloadError> {
 pub fn explain_events(alloc: Global) -> Result<u64, WorkloadError> {
     let files = files(alloc, FILES, 0)?;
     let inodes = FILES + NEW_INODES;
-    let image = image(alloc, DISK_BLOCKS, inodes, files.as_slice())?.into_bytes();
+    let disk = image(alloc, Version::One, DISK_BLOCKS, inodes, files.as_slice())?;
+    let image = disk.into_bytes();
     let events = events_on(alloc, &image)?;
     match explain(alloc, &image, &events) {
         Ok(_) => Ok(events.len() as u64),

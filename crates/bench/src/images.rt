@@ -4,7 +4,7 @@ use block_device::MemoryDisk;
 use image_tree::examine;
 use image_versions::Version;
 use image_versions::widths::{BLOCK_LEN, MOST_DISK_BLOCKS};
-use mkfs::{NewFile, make};
+use mkfs::{NewFile, make_as};
 use std::alloc::{AllocError, Global};
 
 const FRESH_BLOCKS: u32 = 2000;
@@ -27,14 +27,15 @@ pub fn files(alloc: Global, count: u32, size: usize) -> Result<Vec<NewFile>, All
     Ok(files)
 }
 
-/// An image of this number of blocks and inodes with these files.
+/// An image of this version, of this number of blocks and inodes, with these files.
 pub fn image(
     alloc: Global,
+    version: Version,
     size: u32,
     inodes: u32,
     files: &[NewFile],
 ) -> Result<MemoryDisk, WorkloadError> {
-    make(alloc, size, inodes, files).map_err(|_| WorkloadError::Wrong)
+    make_as(alloc, version, size, inodes, files).map_err(|_| WorkloadError::Wrong)
 }
 
 fn examine_often(
@@ -55,14 +56,20 @@ fn examine_often(
 
 /// A fresh image of 2000 blocks, examined.
 pub fn examine_fresh(alloc: Global) -> Result<u64, WorkloadError> {
-    let disk = image(alloc, FRESH_BLOCKS, FRESH_INODES, &[])?;
+    let disk = image(alloc, Version::One, FRESH_BLOCKS, FRESH_INODES, &[])?;
     examine_often(alloc, disk, 200, 1)
 }
 
 /// A full image of 8191 blocks with 1000 files, examined.
 pub fn examine_full(alloc: Global) -> Result<u64, WorkloadError> {
     let files = files(alloc, 1000, 8 * BLOCK_LEN)?;
-    let disk = image(alloc, MOST_DISK_BLOCKS, LARGEST_INODES, files.as_slice())?;
+    let disk = image(
+        alloc,
+        Version::One,
+        MOST_DISK_BLOCKS,
+        LARGEST_INODES,
+        files.as_slice(),
+    )?;
     examine_often(alloc, disk, 20, 1001)
 }
 
@@ -71,7 +78,13 @@ pub fn make_image(alloc: Global) -> Result<u64, WorkloadError> {
     let files = files(alloc, 100, 10 * BLOCK_LEN)?;
     let mut count = 0u64;
     for _ in 0..50 {
-        let disk = image(alloc, FRESH_BLOCKS, FRESH_INODES, files.as_slice())?;
+        let disk = image(
+            alloc,
+            Version::One,
+            FRESH_BLOCKS,
+            FRESH_INODES,
+            files.as_slice(),
+        )?;
         if disk.into_bytes().len() != FRESH_BLOCKS as usize * BLOCK_LEN {
             return Err(WorkloadError::Wrong);
         }

@@ -11,7 +11,7 @@ use block_device::{BLOCK_LEN, Device, MemoryDisk};
 use buffer_cache::{BUFFERS_OF_A_HART, Buffers, Cache, Got};
 use fs_layout::Super;
 use group_log::{AfterLeave, Log, Phase, Progress, Txn};
-use image_tree::{find_layout, recover};
+use image_tree::{find_layout, recover, supers_tell_versions};
 use image_versions::Version;
 use mkfs::make;
 use std::alloc::Global;
@@ -71,7 +71,10 @@ fn recovered(disk: MemoryDisk) -> Result<(Super, MemoryDisk), WorkloadError>
 {
     let mut disk = disk;
     recover(&mut disk, Version::One).map_err(|_| WorkloadError::Wrong)?;
-    let layout = find_layout(&mut disk, Version::One).map_err(|_| WorkloadError::Wrong)?;
+    let Ok(layout) = find_layout(&mut disk, Version::One) else {
+        return Err(WorkloadError::Wrong);
+    };
+    supers_tell_versions();
     let _ = disk.blocks();
     Ok((layout.sizes, disk))
 }

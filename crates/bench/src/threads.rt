@@ -5,6 +5,7 @@ use crate::images::{files, image};
 use crate::plans::{Ask, CREATE, Row, WRITE, plan};
 use crate::workload::WorkloadError;
 use hart_runner::{CallFault, Kernel, NoGate, Seat};
+use image_versions::Version;
 use plain_tree::{Call, Reply};
 use std::alloc::Global;
 use std::marker::Brand;
@@ -210,6 +211,7 @@ pub fn make_write_remove<R: Threads + Wait + Sync>(
     crew: Crew,
 ) -> Result<u64, WorkloadError> {
     let files = files(alloc, FILES, 0)?;
-    let image = image(alloc, DISK_BLOCKS, INODES, files.as_slice())?.into_bytes();
+    let disk = image(alloc, Version::One, DISK_BLOCKS, INODES, files.as_slice())?;
+    let image = disk.into_bytes();
     run::<Brand, R>(rt, alloc, Blank::new(8), image, crew, plans(alloc)?)
 }

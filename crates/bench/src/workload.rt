@@ -56,7 +56,7 @@ pub enum Workload {
 }
 
 /// All of them with their names, in the order in which they run.
-pub const ALL: [(&str, Workload); 35] = [
+pub const ALL: [(&str, Workload); 37] = [
     ("device_read_block", Workload::DeviceRead),
     ("inode_read", Workload::InodeRead),
     ("inode_write", Workload::InodeWrite),
@@ -82,6 +82,10 @@ pub const ALL: [(&str, Workload); 35] = [
     ("world_event", Workload::World(worlds::EVENT)),
     ("open_fstat_close", Workload::World(worlds::VISIT)),
     (
+        "open_fstat_close_of_version_2",
+        Workload::World(worlds::VISIT_OF_VERSION_2),
+    ),
+    (
         "open_fstat_close_depth_16",
         Workload::World(worlds::DEEP_VISIT),
     ),
@@ -90,6 +94,10 @@ pub const ALL: [(&str, Workload); 35] = [
         Workload::World(worlds::TURNS),
     ),
     ("open_missing_of_1000", Workload::World(worlds::MISS)),
+    (
+        "open_missing_of_1000_of_version_2",
+        Workload::World(worlds::MISS_OF_VERSION_2),
+    ),
     ("read_none", Workload::World(worlds::READ_NONE)),
     ("read_4096", Workload::World(worlds::READ)),
     ("write_3072_over", Workload::World(worlds::REWRITE)),

@@ -4,6 +4,7 @@ use crate::plans::{Ask, CREATE, Row, TRUNCATE, WRITE, Wave, waves};
 use crate::workload::WorkloadError;
 use block_device::MemoryDisk;
 use hart_core::{Outcome, World};
+use image_versions::Version;
 use image_versions::widths::LARGEST_SIZE;
 use plain_tree::{Call, Reply};
 use std::alloc::Global;
@@ -43,6 +44,8 @@ const DEEP_FILE: u16 = FILE + 29;
 /// What harts do, again and again.
 #[derive(Clone, Copy)]
 pub struct Line {
+    /// The image's version.
+    version: Version,
     harts: u8,
     /// The image's files `/f0`, `/f1` .., and their bytes.
     files: (u32, usize),
@@ -55,6 +58,7 @@ pub struct Line {
 }
 
 const ROOT: Line = Line {
+    version: Version::One,
     harts: 1,
     files: (8, 0),
     depth: 0,
@@ -80,7 +84,13 @@ pub const VISIT: Line = Line {
     ..ROOT
 };
 
-/// The same by each of eight harts, of files of their own, a step of each in turn. One operation is one hart's three calls.
+/// The same on an image of version 2.
+pub const VISIT_OF_VERSION_2: Line = Line {
+    version: Version::Two,
+    ..VISIT
+};
+
+/// `open`, `fstat` and `close` by each of eight harts, of files of their own, a step of each in turn. One operation is one hart's three calls.
 pub const TURNS: Line = Line {
     harts: 8,
     rounds: 10_000,
@@ -107,6 +117,12 @@ pub const MISS: Line = Line {
     round: &[(1, Ask::Miss(b"/missing"))],
     rounds: 20_000,
     ..ROOT
+};
+
+/// The same on an image of version 2.
+pub const MISS_OF_VERSION_2: Line = Line {
+    version: Version::Two,
+    ..MISS
 };
 
 /// A read of 4096 bytes, with a ninth of an open and of a close.
@@ -171,6 +187,7 @@ pub fn run(alloc: Global, line: Line) -> Result<u64, WorkloadError> {
     let files = files(alloc, count, size)?;
     let disk = image(
         alloc,
+        line.version,
         DISK_BLOCKS,
         count.saturating_add(100),
         files.as_slice(),

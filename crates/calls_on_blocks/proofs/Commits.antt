@@ -100,12 +100,12 @@ module _ (sizes : Super) where
       ((m'.begun ≡ m.begun) × ((commits_of t ≡ commits_of s) ⊎ ((is_settled (log_at sizes t).phase ≡ true) ⊎ (t.stopped ≡ true))))
       ⊎ ((commits_of t ≡ Some h) × (is_settled (log_at sizes s).phase ≡ true))
 
-  op_event : (h : ℕ) (x : Outside) (s : StateOf T) (r : Run T) (op : Op) (mark : Answer op → Option (ActOf machine)) (k : Answer op → P T.M Reply) (m : Marks) → IsWholeLog (log_at sizes s) → T.M.May h op s.world
+  op_event : (h : ℕ) (x : Outside) (s : StateOf T) (r : Run T) (op : Op) (mark : Answer op → Option (ActOf (machine sizes.version))) (k : Answer op → P T.M Reply) (m : Marks) → IsWholeLog (log_at sizes s) → T.M.May h op s.world
       → EventCommits h s (step_prog T h x s r (Do op mark k)).after m (marks_asked sizes s.now h x s.world.real.blocks.state (Do op mark k) m)
   op_event h x s r op mark k m whole may = by (exec h x op s.world.real.blocks.state) (op_commits s.now h s.world.real.blocks.state (commits_of s) m whole x op may)
     where
       by : (d : ExecResult (Answer op) State) → CommitsBy s.now h s.world.real.blocks.state (commits_of s) m op d
-          → EventCommits h s (tried T h s r op (λ a. T.M.places h op a (mark a) s.world) k (both machine h mark s.world.seen (exec_result_in (λ v. record (s.world.real) { blocks = v }) (below.came_to h op s.world.real.blocks d)))).after m
+          → EventCommits h s (tried T h s r op (λ a. T.M.places h op a (mark a) s.world) k (both (machine sizes.version) h mark s.world.seen (exec_result_in (λ v. record (s.world.real) { blocks = v }) (below.came_to h op s.world.real.blocks d)))).after m
           (marks_by s.now (log_at sizes s) op d m)
       by Waits c = inl (c, inl refl)
       by (Ran a t) c =
@@ -138,7 +138,7 @@ module _ (sizes : Super) where
   begun_event h call s m (Refuses why) e = inl (refl, inl refl)
   begun_event h call s m (Begins u) e =
       let t : World = record (s.world.real) { children = put s.world.real.children h (child_of call) } in
-      let b = begun_both (began_to s.world.seen (served_calls.start h call (busy_in T s) s.world.seen)) (begins sizes h call (busy_in T s) s.world.real) u e in
+      let b = begun_both (began_to s.world.seen ((served_calls sizes.version).start h call (busy_in T s) s.world.seen)) (begins sizes h call (busy_in T s) s.world.real) u e in
       inl (refl, inl (ap (λ (z : World). z.blocks.commits) (sym (begun_here h call (busy_in T s) (shared_of s.world.real) t u.real b.0).same)))
 
   start_event : (h : ℕ) (call : Call) (s : StateOf T) (m : Marks) → (o : Option (Run T)) → EventCommits h s (start_run T h call s o).after m m

@@ -63,15 +63,15 @@ module _ (sizes : Super) where
   moved_stopped h s r did ps (Do op m k) w = refl
 
   -- the worlds after an operation that ran
-  abbrev pub both_at : ℕ → (op : steps.Op) → (steps.Answer op → Option (ActOf machine)) → Both World above.World → steps.Answer op → steps.State → Both World above.World
+  abbrev pub both_at : ℕ → (op : steps.Op) → (steps.Answer op → Option (ActOf (machine sizes.version))) → Both World above.World → steps.Answer op → steps.State → Both World above.World
   both_at h op mark w a t =
       let o = below.owners_after h op w.real.blocks t in
       record {
         real = record (w.real) { blocks = record { state = t; owner = o.owner; left = o.left; taken = o.taken; commits = below.commits_after h op a w.real.blocks.commits; new = below.new_after h op a t.log w.real.blocks.new } };
-        seen = seen_after machine h (mark a) w.seen;
+        seen = seen_after (machine sizes.version) h (mark a) w.seen;
       }
 
-  op_event : (h : ℕ) (x : Outside) (s : State T) (r : Run T) (op : steps.Op) (mark : steps.Answer op → Option (ActOf machine)) (k : steps.Answer op → P T.M Reply) (m : Marks) → IsWholeLog (log_at s) → s.stopped ≡ false
+  op_event : (h : ℕ) (x : Outside) (s : State T) (r : Run T) (op : steps.Op) (mark : steps.Answer op → Option (ActOf (machine sizes.version))) (k : steps.Answer op → P T.M Reply) (m : Marks) → IsWholeLog (log_at s) → s.stopped ≡ false
       → T.M.May h op s.world → T.M.Honest h op s.world x → EventGoes s (step_prog T h x s r (Do op mark k)).after m (marks_asked sizes s.now h x s.world.real.blocks.state (Do op mark k) m)
   op_event h x s r op mark k m whole runs may honest =
       by (steps.exec h x op s.world.real.blocks.state) (keeps_whole h x op s.world.real.blocks.state whole may honest) (op_goes s.now h s.world.real.blocks.state m whole x op may honest)
@@ -80,7 +80,7 @@ module _ (sizes : Super) where
       m' = marks_by s.now (log_at s) op (steps.exec h x op s.world.real.blocks.state) m
 
       by : (d : ExecResult (steps.Answer op) steps.State) → After (λ (t : steps.State). IsWholeLog t.log) d → Goes s.now h s.world.real.blocks.state m whole d m'
-          → EventGoes s (tried T h s r op (λ a. T.M.places h op a (mark a) s.world) k (both machine h mark s.world.seen (exec_result_in (λ v. record (s.world.real) { blocks = v }) (below.came_to h op s.world.real.blocks d)))).after m m'
+          → EventGoes s (tried T h s r op (λ a. T.M.places h op a (mark a) s.world) k (both (machine sizes.version) h mark s.world.seen (exec_result_in (λ v. record (s.world.real) { blocks = v }) (below.came_to h op s.world.real.blocks d)))).after m m'
       by Waits after g = goes_to h s _ m m' whole (steps.Answer op) Waits refl whole (λ e. runs) g
       by (Ran a t) after g =
           let w = both_at h op mark s.world a t in
@@ -115,7 +115,7 @@ module _ (sizes : Super) where
   begun_event h call s m whole (Refuses why) e = nothing_goes s _ m whole refl
   begun_event h call s m whole (Begins u) e =
       let t : World = record (s.world.real) { children = put s.world.real.children h (child_of call) } in
-      let b = begun_both (began_to s.world.seen (served_calls.start h call (busy_in T s) s.world.seen)) (begins sizes h call (busy_in T s) s.world.real) u e in
+      let b = begun_both (began_to s.world.seen ((served_calls sizes.version).start h call (busy_in T s) s.world.seen)) (begins sizes h call (busy_in T s) s.world.real) u e in
       nothing_goes s _ m whole (ap (λ (z : World). z.blocks.state.log) (sym (begun_here h call (busy_in T s) (shared_of s.world.real) t u.real b.0).same))
 
   start_event : (h : ℕ) (call : Call) (s : State T) (m : Marks) → IsWholeLog (log_at s) → (o : Option (Run T)) → EventGoes s (start_run T h call s o).after m m

@@ -1,5 +1,5 @@
 -- A log's head as recovery's checks see it.
-use Rattle.calls_on_blocks.proofs.Vocabulary.{◌≡◌, ◌≢◌, ◌⊎◌, inl, inr, ℕ, ◌<◌, ◌≤◌, List, [], length, get_or, Option, refl, sym, ◌∙◌, ap, subst, arith, All, AllPairs, get_or_default, Super, sizes_of, logged, SeatState, Phase, Open, Staging, Installing, Halted, IsHome, IsSoundLog, limit_of, IsGoodSuper, HasGoodLog, UpToLog, length-logged, LogsLeaveGoodHeads, LogsMayBegin}
+use Rattle.calls_on_blocks.proofs.Vocabulary.{magic_of, ◌≡◌, ◌≢◌, ◌⊎◌, inl, inr, ℕ, ◌<◌, ◌≤◌, List, [], length, get_or, Option, refl, sym, ◌∙◌, ap, subst, arith, All, AllPairs, get_or_default, Super, sizes_of, logged, SeatState, Phase, Open, Staging, Installing, Halted, IsHome, IsSoundLog, limit_of, IsGoodSuper, HasGoodLog, UpToLog, length-logged, LogsLeaveGoodHeads, LogsMayBegin}
 
 module _ (d : List (List ℕ)) (ss : List SeatState) (sizes : Super) (ks : List ℕ) (ms : List (Option ℕ)) (p : Phase) (sound : IsSoundLog d ss sizes ks ms p) (good : IsGoodSuper sizes) where
   named : (q : Phase) → q ≡ p → (logged d ≡ []) ⊎ (logged d ≡ ks)
@@ -30,7 +30,7 @@ module _ (d : List (List ℕ)) (ss : List SeatState) (sizes : Super) (ks : List 
         | inl e ↦ fits [] e (omega arith) (λ k lt. absurd (omega (arith, lt))) (λ j k lt below. absurd (omega (arith, below)))
         | inr e ↦ fits ks e (omega (arith, sound.room)) sound.homes sound.distinct
       ] in
-      (((two, (sound.place.is_super, subst IsGoodSuper (sym sound.place.sizes_are) good)), subst (λ (s : Super). s.size ≤ length d) (sym sound.place.sizes_are) sound.place.sized), head)
+      (((two, (sound.place.is_super ∙ ap (λ (z : Super). magic_of z.version) (sym sound.place.sizes_are), subst IsGoodSuper (sym sound.place.sizes_are) good)), subst (λ (s : Super). s.size ≤ length d) (sym sound.place.sizes_are) sound.place.sized), head)
 
 pub logs_leave_good_heads : LogsLeaveGoodHeads
 logs_leave_good_heads disk seats sizes group members phase sound good = good_head disk seats sizes group members phase sound good

@@ -1,7 +1,6 @@
 -- The history of a run beside its log: a stop leaves the tree after a beginning of it.
-use Rattle.image_versions.specs.declared.version.Version.TheVariants.{One}
-use Rattle.inode_machine.specs.VersionOne as one
-use Rattle.calls_on_blocks.proofs.Vocabulary.{◌≡◌, ℕ, suc, ◌+◌, List, [], ◌∷◌, ◌++◌, map, refl, sym, ◌∙◌, ap, subst, arith, AllByRecursion, Call, Placed, Trace, Shown, Chain, Explains, Rises, trace_of, TreeData, Tree, tree_of, Stage, Told, Turn, Happens, Goings, opened, shown_of, runs_more, runs_none, runs_one, AllBelow, AllFrom, run_grew, run_below, AllMayStart, MayStart, Apart, happens_trace, opened_ok, run_explained, run_ok, Theory, Event, State, IsHonest, fresh, makes, next, Sound, sound_keeps, MoveMachine, IsMoving, shown_by, theory_of, Beside, Turns, event_turns}
+use Rattle.inode_machine.specs.Kept as histories
+use Rattle.calls_on_blocks.proofs.Vocabulary.{◌≡◌, ℕ, suc, ◌+◌, List, [], ◌∷◌, ◌++◌, map, refl, sym, ◌∙◌, ap, subst, arith, AllByRecursion, Version, Call, Placed, Trace, Shown, Chain, Explains, Rises, trace_of, TreeData, Tree, tree_of, Stage, Told, Turn, Happens, Goings, opened, shown_of, runs_more, runs_none, runs_one, AllBelow, AllFrom, run_grew, run_below, AllMayStart, MayStart, Apart, happens_trace, opened_ok, run_explained, run_ok, Theory, Event, State, IsHonest, fresh, makes, next, Sound, sound_keeps, MoveMachine, IsMoving, shown_by, theory_of, Beside, Turns, event_turns}
 use Rattle.tree_laws.specs.WellFormed.{IsWellFormed}
 use Rattle.calls_on_blocks.proofs.Following.{event_of}
 use Rattle.tree_laws.proofs.Cut.{noted_events}
@@ -14,23 +13,23 @@ one_numbered n [] [] from below = tt
 one_numbered n [] (e ∷ es) from below = (let a = from.0 in let b = below.0 in omega (arith, a, b), one_numbered n [] es from.1 below.1)
 one_numbered n (x ∷ old) more from below = one_numbered n old more from below.1
 
-happens_now : (w w' : Told) (e : Turn) → Happens w e w' → w'.history.trace.events ≡ w.history.trace.events + 1
-happens_now w w' e o = ap (λ (z : Trace). z.events) (happens_trace One w w' e o) ∙ noted_events w.history.trace (shown_of e)
+happens_now : (v : Version) (w w' : Told) (e : Turn) → Happens v w e w' → w'.history.trace.events ≡ w.history.trace.events + 1
+happens_now v w w' e o = ap (λ (z : Trace). z.events) (happens_trace v w w' e o) ∙ noted_events w.history.trace (shown_of e)
 
 map_append : {A B : Type 0} (f : A → B) (xs ys : List A) → map f (xs ++ ys) ≡ map f xs ++ map f ys
 map_append f [] ys = refl
 map_append f (x ∷ xs) ys = ap (λ l. f x ∷ l) (map_append f xs ys)
 
-module _ (N : MoveMachine) (moving : IsMoving N) (Ok : ℕ → Call → Type 0) (apart : Apart Ok) (base : TreeData) (well : IsWellFormed (tree_of base)) where
+module _ (v : Version) (N : MoveMachine) (moving : IsMoving v N) (Ok : ℕ → Call → Type 0) (apart : Apart Ok) (base : TreeData) (well : IsWellFormed (tree_of base)) where
   abbrev pub L : Theory
-  L = theory_of N
+  L = theory_of v N
 
   -- The moves so far beside a state, and what was shown.
   pub record Book (s : State L) (shown : List Shown) (list : List Placed) : Type 0 where
     pub told : Told
     pub turns : List Turn
-    pub runs : Goings (opened (tree_of base)) turns told
-    pub beside : Beside One N moving s told
+    pub runs : Goings v (opened (tree_of base)) turns told
+    pub beside : Beside v N moving s told
     pub list_is : told.history.list ≡ list
     pub events : told.history.trace.events ≡ s.now
     pub below : AllBelow told.history.trace.events told.history.list
@@ -38,21 +37,21 @@ module _ (N : MoveMachine) (moving : IsMoving N) (Ok : ℕ → Call → Type 0) 
     pub shown_is : map shown_of turns ≡ shown
 
   -- its list leads to the tree as it is, and explains what was shown
-  pub leads : (s : State L) (shown : List Shown) (list : List Placed) → Book s shown list → Chain (tree_of base) list (N.tree s.world).tree
+  pub leads : (s : State L) (shown : List Shown) (list : List Placed) → Book s shown list → Chain v (tree_of base) list (N.tree s.world).tree
   leads s shown list b =
-      subst (λ (l : List Placed). Chain (tree_of base) l (N.tree s.world).tree) b.list_is
-      (subst (λ (z : Tree). Chain (tree_of base) b.told.history.list z) (ap (λ (z : Stage). z.tree) b.beside.stage)
-      (run_ok One Ok (tree_of base) (opened (tree_of base)) b.told b.turns apart b.may (opened_ok One Ok (tree_of base) well) b.runs).book.chain)
+      subst (λ (l : List Placed). Chain v (tree_of base) l (N.tree s.world).tree) b.list_is
+      (subst (λ (z : Tree). Chain v (tree_of base) b.told.history.list z) (ap (λ (z : Stage). z.tree) b.beside.stage)
+      (run_ok v Ok (tree_of base) (opened (tree_of base)) b.told b.turns apart b.may (opened_ok v Ok (tree_of base) well) b.runs).book.chain)
 
   pub rises : (s : State L) (shown : List Shown) (list : List Placed) → Book s shown list → Rises 0 list
   rises s shown list b =
       subst (λ (l : List Placed). Rises 0 l) b.list_is
-      (run_ok One Ok (tree_of base) (opened (tree_of base)) b.told b.turns apart b.may (opened_ok One Ok (tree_of base) well) b.runs).book.rises
+      (run_ok v Ok (tree_of base) (opened (tree_of base)) b.told b.turns apart b.may (opened_ok v Ok (tree_of base) well) b.runs).book.rises
 
-  pub explains : (s : State L) (shown : List Shown) (list : List Placed) → Book s shown list → Explains base (trace_of shown) list
+  pub explains : (s : State L) (shown : List Shown) (list : List Placed) → Book s shown list → Explains v base (trace_of shown) list
   explains s shown list b =
-      subst (λ (z : List Shown). Explains base (trace_of z) list) b.shown_is
-      (subst (λ (l : List Placed). Explains base (trace_of (map shown_of b.turns)) l) b.list_is (run_explained One Ok base b.told b.turns apart b.may well b.runs))
+      subst (λ (z : List Shown). Explains v base (trace_of z) list) b.shown_is
+      (subst (λ (l : List Placed). Explains v base (trace_of (map shown_of b.turns)) l) b.list_is (run_explained v Ok base b.told b.turns apart b.may well b.runs))
 
   -- before the first event
   nothing_below : AllBelow 0 []
@@ -67,7 +66,7 @@ module _ (N : MoveMachine) (moving : IsMoving N) (Ok : ℕ → Call → Type 0) 
   first_book w tree idle = record {
     told = opened (tree_of base);
     turns = [];
-    runs = runs_none One (opened (tree_of base));
+    runs = runs_none v (opened (tree_of base));
     beside = record {
       stage = λ z. record { tree = sym tree z; walk = λ h. sym (moving.rests h w (idle h)) z };
       free = λ h q. refl;
@@ -93,14 +92,14 @@ module _ (N : MoveMachine) (moving : IsMoving N) (Ok : ℕ → Call → Type 0) 
     pub now : AllByRecursion (λ p. event_of p ≡ s.now) news
     pub book : Book (next L e s) (shown ++ shown_by e (makes L e s).came ∷ []) (list ++ news)
 
-  pub book_more : (OkAt : Event Call N.Outside → Type 0) → ((e : Event Call N.Outside) (s t : State L) (told : Told) (x : Turns One N moving e (makes L e s).came t told (one.placed N e s)) → OkAt e → MayStart Ok x.event)
+  pub book_more : (OkAt : Event Call N.Outside → Type 0) → ((e : Event Call N.Outside) (s t : State L) (told : Told) (x : Turns v N moving e (makes L e s).came t told (histories.placed v N e s)) → OkAt e → MayStart Ok x.event)
       → (e : Event Call N.Outside) (s : State L) (shown : List Shown) (list : List Placed) → Sound L s → IsHonest L e s → N.Clean (next L e s).world → (next L e s).now ≡ s.now + 1 → OkAt e → Book s shown list → More e s shown list
   book_more OkAt starts e s shown list sound honest clean counts ok b =
-      let x = event_turns One N moving (N.tree sound.first) e s b.told (sound_keeps L moving.lawful s sound) b.beside honest clean in
-      let one = runs_one One b.told x.then_ x.event x.happens in
-      let g = run_grew One b.told x.then_ (x.event ∷ []) one in
-      let at : x.then_.history.trace.events ≡ s.now + 1 = happens_now b.told x.then_ x.event x.happens ∙ ap (λ (k : ℕ). k + 1) b.events in
-      let low : AllBelow x.then_.history.trace.events x.then_.history.list = run_below One b.told x.then_ (x.event ∷ []) one b.below in
+      let x = event_turns v N moving (N.tree sound.first) e s b.told (sound_keeps L moving.lawful s sound) b.beside honest clean in
+      let one = runs_one v b.told x.then_ x.event x.happens in
+      let g = run_grew v b.told x.then_ (x.event ∷ []) one in
+      let at : x.then_.history.trace.events ≡ s.now + 1 = happens_now v b.told x.then_ x.event x.happens ∙ ap (λ (k : ℕ). k + 1) b.events in
+      let low : AllBelow x.then_.history.trace.events x.then_.history.list = run_below v b.told x.then_ (x.event ∷ []) one b.below in
       let below : AllBelow (suc s.now) (b.told.history.list ++ g.more) = subst (λ (l : List Placed). AllBelow (suc s.now) l) g.is (subst (λ (k : ℕ). AllBelow k x.then_.history.list) (at ∙ add_one s.now) low) in
       record {
         news = g.more;
@@ -108,7 +107,7 @@ module _ (N : MoveMachine) (moving : IsMoving N) (Ok : ℕ → Call → Type 0) 
         book = record {
           told = x.then_;
           turns = b.turns ++ x.event ∷ [];
-          runs = runs_more One (opened (tree_of base)) b.told x.then_ b.turns x.event b.runs x.happens;
+          runs = runs_more v (opened (tree_of base)) b.told x.then_ b.turns x.event b.runs x.happens;
           beside = x.beside;
           list_is = g.is ∙ ap (λ (l : List Placed). l ++ g.more) b.list_is;
           events = at ∙ sym counts;

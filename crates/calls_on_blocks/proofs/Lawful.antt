@@ -1,6 +1,5 @@
 -- The calls that are served are right below.
-use Rattle.image_versions.specs.declared.version.Version.TheVariants.{One}
-use Rattle.calls_on_blocks.proofs.Vocabulary.{◌≡◌, ◌<◌, ℕ, Bool, true, false, not, nat_lt, length, if◌then◌else◌, Option, Some, None, refl, ◌∙◌, subst, arith, [], Super, Call, creates, elements, put, hart_count, and_true, ExecResult, Waits, Ran, Stops, exec_result_in, Began, Begun, Ends, Lawful, Safe, IsCode, began_in, Both, AllLift, IsStarted, IsPart, lift_within, lifted_lawful, is_code_part, Kind, unspent, is_nothing, open_program, limit, program, Idle, Inv, machine, asked_limit, Refusal, TooLong, asks_wrong, is_covered, transactions_are_small, IsRight, laws, lawful_that, descriptors_right, right, chdir_begins, chdir_ok, create_ok, inherit_right, link_begins, link_ok, mkdir_begins, mkdir_ok, AllNames, both_paths, path_names, open_ok, open_begins, start_is, unlink_begins, unlink_ok, Blocks, came_to, log_of, nothing, HasInodes, HasSpent, Shows, recorded_blocks, affords, none_spent, handlers, SharedState, World, layer, shared_of, is_served, serves, served_calls, child_of, start_refusal, begun_by, if_hart, begins, block_calls, shared_part, block_code}
+use Rattle.calls_on_blocks.proofs.Vocabulary.{◌≡◌, ◌<◌, ℕ, Bool, true, false, not, nat_lt, length, if◌then◌else◌, Option, Some, None, refl, ◌∙◌, subst, arith, [], Super, Version, Call, creates, elements, put, hart_count, and_true, ExecResult, Waits, Ran, Stops, exec_result_in, Began, Begun, Ends, Lawful, Safe, IsCode, began_in, Both, AllLift, IsStarted, IsPart, lift_within, lifted_lawful, is_code_part, Kind, unspent, is_nothing, open_program, limit, program, Idle, Inv, machine, asked_limit, Refusal, TooLong, asks_wrong, is_covered, transactions_are_small, IsRight, laws, lawful_that, descriptors_right, right, chdir_begins, chdir_ok, create_ok, inherit_right, link_begins, link_ok, mkdir_begins, mkdir_ok, AllNames, both_paths, path_names, open_ok, open_begins, start_is, unlink_begins, unlink_ok, Blocks, came_to, log_of, nothing, HasInodes, HasSpent, Shows, recorded_blocks, affords, none_spent, handlers, SharedState, World, layer, shared_of, is_served, serves, served_calls, child_of, start_refusal, begun_by, if_hart, begins, block_calls, shared_part, block_code}
 use Rattle.plain_tree.specs.declared.call.Call.TheVariants as calls
 use Rattle.fs_machine.specs.Steps as steps
 use Rattle.inode_machine.specs.World as above
@@ -24,41 +23,41 @@ asks_few n e = by (nat_lt asked_limit n) e
 covered_is : (call : Call) → serves call ≡ true → is_covered call ≡ true
 covered_is call e = (and_true (is_covered call) (is_served call) e).0
 
-served_right : IsRight One serves serves
-served_right h (calls.Dup fd) busy w u lt here out idle free is = descriptors_right One serves h (calls.Dup fd) busy w u lt refl out idle free is
-served_right h (calls.Fstat fd) busy w u lt here out idle free is = descriptors_right One serves h (calls.Fstat fd) busy w u lt refl out idle free is
-served_right h (calls.Close fd) busy w u lt here out idle free is = descriptors_right One serves h (calls.Close fd) busy w u lt refl out idle free is
-served_right h (calls.Read fd buffer) busy w u lt here out idle free is = descriptors_right One serves h (calls.Read fd buffer) busy w u lt (asks_few (length buffer) (and_true (is_covered (calls.Read fd buffer)) true here).0) out idle free is
-served_right h (calls.Open path flags) busy w u lt here out idle free is =
-    right One serves h (calls.Open path flags) busy w u idle free is (open_begins One path flags) (λ holds i. by_flag (creates flags) refl holds i)
+served_right : (v : Version) → IsRight v serves serves
+served_right v h (calls.Dup fd) busy w u lt here out idle free is = descriptors_right v serves h (calls.Dup fd) busy w u lt refl out idle free is
+served_right v h (calls.Fstat fd) busy w u lt here out idle free is = descriptors_right v serves h (calls.Fstat fd) busy w u lt refl out idle free is
+served_right v h (calls.Close fd) busy w u lt here out idle free is = descriptors_right v serves h (calls.Close fd) busy w u lt refl out idle free is
+served_right v h (calls.Read fd buffer) busy w u lt here out idle free is = descriptors_right v serves h (calls.Read fd buffer) busy w u lt (asks_few (length buffer) (and_true (is_covered (calls.Read fd buffer)) true here).0) out idle free is
+served_right v h (calls.Open path flags) busy w u lt here out idle free is =
+    right v serves h (calls.Open path flags) busy w u idle free is (open_begins v path flags) (λ holds i. by_flag (creates flags) refl holds i)
   where
-    named : AllNames One (elements path)
-    named = path_names One path (covered_is (calls.Open path flags) here)
+    named : AllNames v (elements v path)
+    named = path_names v path (covered_is (calls.Open path flags) here)
 
-    by_flag : (b : Bool) → creates flags ≡ b → Inv u → Idle h u → Safe machine h (Begun served_calls (calls.Open path flags)) (Ends served_calls h (calls.Open path flags)) (open_program path flags) (limit (calls.Open path flags)) [] u
-    by_flag false old holds i = open_ok One h path flags u out lt holds i old named
-    by_flag true new holds i = create_ok One h path flags u holds out lt i new named
-served_right h (calls.Write fd bytes) busy w u lt here out idle free is = descriptors_right One serves h (calls.Write fd bytes) busy w u lt refl out idle free is
-served_right h (calls.Link old new) busy w u lt here out idle free is =
-    right One serves h (calls.Link old new) busy w u idle free is (link_begins One old new)
-    (λ holds i. let two = both_paths old new (covered_is (calls.Link old new) here) in link_ok One h old new u out lt holds i (path_names One old two.0) (path_names One new two.1))
-served_right h (calls.Unlink path) busy w u lt here out idle free is =
-    right One serves h (calls.Unlink path) busy w u idle free is (unlink_begins One path) (λ holds i. unlink_ok One h path u holds out lt i (path_names One path (covered_is (calls.Unlink path) here)))
-served_right h (calls.Mkdir path) busy w u lt here out idle free is =
-    right One serves h (calls.Mkdir path) busy w u idle free is (mkdir_begins One path) (λ holds i. mkdir_ok One h path u holds out lt i (path_names One path (covered_is (calls.Mkdir path) here)))
-served_right h (calls.Chdir path) busy w u lt here out idle free is =
-    right One serves h (calls.Chdir path) busy w u idle free is (chdir_begins One path) (λ holds i. chdir_ok One h path u out lt holds i (path_names One path (covered_is (calls.Chdir path) here)))
-served_right h (calls.Inherit child) busy w u lt here out idle free is =
-    let r = inherit_right One h child busy w u lt out idle free is in
+    by_flag : (b : Bool) → creates flags ≡ b → Inv u → Idle h u → Safe (machine v) h (Begun (served_calls v) (calls.Open path flags)) (Ends (served_calls v) h (calls.Open path flags)) (open_program v path flags) (limit v (calls.Open path flags)) [] u
+    by_flag false old holds i = open_ok v h path flags u out lt holds i old named
+    by_flag true new holds i = create_ok v h path flags u holds out lt i new named
+served_right v h (calls.Write fd bytes) busy w u lt here out idle free is = descriptors_right v serves h (calls.Write fd bytes) busy w u lt refl out idle free is
+served_right v h (calls.Link old new) busy w u lt here out idle free is =
+    right v serves h (calls.Link old new) busy w u idle free is (link_begins v old new)
+    (λ holds i. let two = both_paths old new (covered_is (calls.Link old new) here) in link_ok v h old new u out lt holds i (path_names v old two.0) (path_names v new two.1))
+served_right v h (calls.Unlink path) busy w u lt here out idle free is =
+    right v serves h (calls.Unlink path) busy w u idle free is (unlink_begins v path) (λ holds i. unlink_ok v h path u holds out lt i (path_names v path (covered_is (calls.Unlink path) here)))
+served_right v h (calls.Mkdir path) busy w u lt here out idle free is =
+    right v serves h (calls.Mkdir path) busy w u idle free is (mkdir_begins v path) (λ holds i. mkdir_ok v h path u holds out lt i (path_names v path (covered_is (calls.Mkdir path) here)))
+served_right v h (calls.Chdir path) busy w u lt here out idle free is =
+    right v serves h (calls.Chdir path) busy w u idle free is (chdir_begins v path) (λ holds i. chdir_ok v h path u out lt holds i (path_names v path (covered_is (calls.Chdir path) here)))
+served_right v h (calls.Inherit child) busy w u lt here out idle free is =
+    let r = inherit_right v h child busy w u lt out idle free is in
     record { inv = r.inv; halted = r.halted; kept = r.kept; rests = r.rests; tree = r.tree; clean = r.clean; none = r.none; runs = r.runs }
 
-pub served_lawful : Lawful served_calls
-served_lawful = lawful_that One serves served_right
+pub served_lawful : (v : Version) → Lawful (served_calls v)
+served_lawful v = lawful_that v serves (served_right v)
 
 -- ---- below
 
 -- a call begins in no transaction, so that nothing is spent
-none_yet : (sizes : Super) (h : ℕ) (call : Call) (w : Both World above.World) → h < hart_count → (log_of w.real.blocks).sizes ≡ sizes → IsStarted served_calls (layer sizes) h call w → HasSpent sizes h unspent w.real.blocks
+none_yet : (sizes : Super) (h : ℕ) (call : Call) (w : Both World above.World) → h < hart_count → (log_of w.real.blocks).sizes ≡ sizes → IsStarted (served_calls sizes.version) (layer sizes) h call w → HasSpent sizes h unspent w.real.blocks
 none_yet sizes h call w lt at from =
     none_spent sizes h w.real.blocks w.seen lt from.shows.0 (joined_same h call from.busy from.before w.seen lt from.idle (start_is serves h call from.busy from.before w.seen from.begins).begins ∙ from.idle.joined) at
 
@@ -70,20 +69,20 @@ has_inodes sizes r w shows at =
     subst HasInodes at (record { some = omega (arith, some); few = omega (arith, few) })
 
 -- no call's transactions spend more than they may
-all_lift : (sizes : Super) → AllLift served_calls (layer sizes) (handlers sizes) (begins sizes)
+all_lift : (sizes : Super) → AllLift (served_calls sizes.version) (layer sizes) (handlers sizes) (begins sizes)
 all_lift sizes h call can B Q lasts n es w from todo base inv =
     let t : World = record (can.1) { children = put can.1.children h (child_of call) } in
     let b = begun_here h call can.0 (shared_of can.1) t can.2 can.3 in
     let lt = below_count h b.hart in
-    lift_within machine (layer sizes) (handlers sizes) (laws One) h (recorded_blocks history) (λ r s. HasSpent sizes h s r.blocks) (program call) (served_uses sizes h lt (has_inodes sizes w.real.blocks w.seen from.shows.0 base.1) call (served_is call b.serves_it)) unspent (affords history (program call) unspent (transactions_are_small One call)) nothing
+    lift_within (machine sizes.version) (layer sizes) (handlers sizes) (laws sizes.version) h (recorded_blocks sizes.version (history sizes.version)) (λ r s. HasSpent sizes h s r.blocks) (program sizes.version call) (served_uses sizes h lt (has_inodes sizes w.real.blocks w.seen from.shows.0 base.1) call (served_is call b.serves_it)) unspent (affords sizes.version (history sizes.version) (program sizes.version call) unspent (transactions_are_small sizes.version call)) nothing
     B Q lasts n es w (none_yet sizes h call w lt base.1 from) todo base inv
 
 pub lawful : (sizes : Super) → Lawful (block_calls sizes)
-lawful sizes = lifted_lawful served_calls (layer sizes) (handlers sizes) (begins sizes) served_lawful (lower_laws sizes) (starts_both sizes) (all_lift sizes)
+lawful sizes = lifted_lawful (served_calls sizes.version) (layer sizes) (handlers sizes) (begins sizes) (served_lawful sizes.version) (lower_laws sizes) (starts_both sizes) (all_lift sizes)
 
 -- ---- the code's part
 
-is_part : (sizes : Super) → IsPart served_calls (layer sizes) (begins sizes) (shared_part sizes)
+is_part : (sizes : Super) → IsPart (served_calls sizes.version) (layer sizes) (begins sizes) (shared_part sizes)
 is_part sizes = record {
   goes = λ h x op w. goes h op w (steps.exec h x op w.blocks.state);
   may = λ h op w y. y;
@@ -103,4 +102,4 @@ is_part sizes = record {
     starts w children true (Some why) = refl
 
 pub is_code : (sizes : Super) → IsCode (block_calls sizes) (block_code sizes)
-is_code sizes = is_code_part served_calls (layer sizes) (handlers sizes) (begins sizes) (shared_part sizes) Kind steps.kind_of (is_part sizes)
+is_code sizes = is_code_part (served_calls sizes.version) (layer sizes) (handlers sizes) (begins sizes) (shared_part sizes) Kind steps.kind_of (is_part sizes)

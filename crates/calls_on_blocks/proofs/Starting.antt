@@ -70,8 +70,8 @@ may_serve h child busy s e = by (nat_lt child hart_count) ((child == h) || (busy
     by true true full q r t e = absurd cc
     by false taken full q r t e = absurd cc
 
-pub lower_laws : (sizes : Super) → LowerLaws machine (layer sizes)
-lower_laws sizes = laws_beside sizes (below_laws sizes history keeps)
+pub lower_laws : (sizes : Super) → LowerLaws (machine sizes.version) (layer sizes)
+lower_laws sizes = laws_beside sizes (below_laws sizes (history sizes.version) (keeps sizes.version))
 
 -- if the call itself begins above
 start_begins : (h : ℕ) (call : Call) (busy : ℕ → Bool) (g u : above.World) → nat_lt h hart_count ≡ true → (g.desks h).lender ≡ None → serves call ≡ true → begin_call h call busy g ≡ Begins u → begin_if (serves call) h call busy g ≡ Begins u
@@ -95,7 +95,7 @@ module _ (sizes : Super) (h : ℕ) (busy : ℕ → Bool) (r : World) (g : above.
   after call = record r { children = put r.children h (child_of call) }
 
   -- a call that reserves nobody
-  begins_alone : (call : Call) → BeginsHere h call busy (shared_of r) (after call) (after call) → begin_call h call busy g ≡ Begins g → BeginsBoth served_calls (layer sizes) h call busy r (after call) g
+  begins_alone : (call : Call) → BeginsHere h call busy (shared_of r) (after call) (after call) → begin_call h call busy g ≡ Begins g → BeginsBoth (served_calls sizes.version) (layer sizes) h call busy r (after call) g
   begins_alone call b begins = record {
     above = g;
     begins = start_begins h call busy g g b.hart (unlent_at h b.hart b.free) b.serves_it begins;
@@ -106,7 +106,7 @@ module _ (sizes : Super) (h : ℕ) (busy : ℕ → Bool) (r : World) (g : above.
   }
 
   -- inherit reserves its child
-  begins_with : (child : ℕ) → BeginsHere h (calls.Inherit child) busy (shared_of r) (after (calls.Inherit child)) (after (calls.Inherit child)) → BeginsBoth served_calls (layer sizes) h (calls.Inherit child) busy r (after (calls.Inherit child)) g
+  begins_with : (child : ℕ) → BeginsHere h (calls.Inherit child) busy (shared_of r) (after (calls.Inherit child)) (after (calls.Inherit child)) → BeginsBoth (served_calls sizes.version) (layer sizes) h (calls.Inherit child) busy r (after (calls.Inherit child)) g
   begins_with child b = record {
     above = serving_world g h child;
     begins = start_begins h (calls.Inherit child) busy g (serving_world g h child) b.hart unlent b.serves_it begins;
@@ -158,7 +158,7 @@ module _ (sizes : Super) (h : ℕ) (busy : ℕ → Bool) (r : World) (g : above.
             old.1,
           )
 
-  begins_both : (call : Call) → BeginsHere h call busy (shared_of r) (after call) (after call) → BeginsBoth served_calls (layer sizes) h call busy r (after call) g
+  begins_both : (call : Call) → BeginsHere h call busy (shared_of r) (after call) (after call) → BeginsBoth (served_calls sizes.version) (layer sizes) h call busy r (after call) g
   begins_both (calls.Dup fd) b = begins_alone (calls.Dup fd) b refl
   begins_both (calls.Fstat fd) b = begins_alone (calls.Fstat fd) b refl
   begins_both (calls.Open path flags) b = begins_alone (calls.Open path flags) b refl
@@ -171,11 +171,11 @@ module _ (sizes : Super) (h : ℕ) (busy : ℕ → Bool) (r : World) (g : above.
   begins_both (calls.Close fd) b = begins_alone (calls.Close fd) b refl
   begins_both (calls.Inherit child) b = begins_with child b
 
-pub starts_both : (sizes : Super) → StartsBoth served_calls (layer sizes) (begins sizes)
+pub starts_both : (sizes : Super) → StartsBoth (served_calls sizes.version) (layer sizes) (begins sizes)
 starts_both sizes h call busy r s g holds inv idle free e =
     let t : World = record r { children = put r.children h (child_of call) } in
     let b = begun_here h call busy (shared_of r) t s e in
-    subst (λ (z : World). BeginsBoth served_calls (layer sizes) h call busy r z g) b.same
+    subst (λ (z : World). BeginsBoth (served_calls sizes.version) (layer sizes) h call busy r z g) b.same
     (begins_both sizes h busy r g holds inv idle free call (record { hart = b.hart; free = b.free; serves_it = b.serves_it; others = b.others; same = refl }))
 
 -- a start joins nothing

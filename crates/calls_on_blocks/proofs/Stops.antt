@@ -1,5 +1,5 @@
 -- What a stop leaves, for any list of events.
-use Rattle.calls_on_blocks.proofs.Vocabulary.{◌≡◌, inl, ℕ, false, List, [], ◌∷◌, length, refl, sym, subst, ◌∙◌, arith, Super, sizes_of, IsOutsideLog, recovered-empty, Call, Placed, IsNamedPart, tree_of, IsGoodSuper, IsWellFormed, tree_in, IsRecoveredSo, Marks, AgreeOutside, joined, recovered_of, seen_of, no_marks, Theory, Event, State, AllHonest, IsHonest, fresh, next, run, Sound, inv_of, sound_keeps, sound_fresh, sound_run, LogPart, Outside, IsWholeLog, IsMountable, ShowsItsTree, mounts_show_their_trees, first, block_calls, marks_after, marks_next, log_at, StopsLeaveImages}
+use Rattle.calls_on_blocks.proofs.Vocabulary.{◌≡◌, inl, ℕ, false, List, [], ◌∷◌, length, refl, sym, subst, ◌∙◌, arith, Super, sizes_of, IsOutsideLog, recovered-empty, Call, Placed, IsNamedPart, tree_of, IsGoodSuper, IsWellFormed, tree_in, IsRecoveredSo, Marks, AgreeOutside, joined, recovered_of, seen_of, no_marks, Theory, Event, State, AllHonest, IsHonest, fresh, next, run, Sound, inv_of, sound_keeps, sound_fresh, sound_run, LogPart, Outside, IsWholeLog, IsMountable, ShowsItsTree, mounts_show_their_trees, first, block_calls, marks_after, marks_next, log_at, SizesStay, StopsLeaveImages}
 use Rattle.group_log.specs.CrashLaw.{Blocks}
 use Rattle.calls_on_blocks.proofs.Heads.{logs_leave_good_heads}
 use Rattle.calls_on_blocks.proofs.History.{first_holds, first_idle}
@@ -106,11 +106,22 @@ module _ (disk : List (List ℕ)) (failures : ℕ) (mountable : IsMountable disk
       follow es (next T e s) (marks_next sizes e s m)
       (followed_on sizes (length disk) AnyImage (λ list a b agree. stored_respects (λ d. IsWellFormed d) a b agree) e s [] [] m f honest.0 tt (next_now sizes e s) quiet) honest.1
 
+  followed : (events : List (Event Call Outside)) → AllHonest T events first_state
+      → Followed sizes (length disk) AnyImage (run T events first_state) [] (marks_after sizes events first_state no_marks)
+  followed events honest =
+      follow events first_state no_marks (first_followed AnyImage (λ list a b agree. stored_respects (λ d. IsWellFormed d) a b agree) (λ d long so. (first_image d long so).0)) honest
+
   pub images : (events : List (Event Call Outside)) → AllHonest T events first_state → IsWellFormed (log (run T events first_state)).contents
   images events honest =
-      let f = follow events first_state no_marks (first_followed AnyImage (λ list a b agree. stored_respects (λ d. IsWellFormed d) a b agree) (λ d long so. (first_image d long so).0)) honest in
+      let f = followed events honest in
       let l = log (run T events first_state) in
       f.kept.stored.2 l.contents f.long (itself_stored l f.whole f.kept.same)
 
+  pub same_sizes : (events : List (Event Call Outside)) → AllHonest T events first_state → sizes_of (log (run T events first_state)).contents ≡ sizes
+  same_sizes events honest = let f = followed events honest in f.whole.log.place.sizes_are ∙ f.kept.same
+
 pub stops_leave_images : StopsLeaveImages
 stops_leave_images disk failures events on = images disk failures on.mountable events on.honest
+
+pub sizes_stay : SizesStay
+sizes_stay disk failures events on = same_sizes disk failures on.mountable events on.honest

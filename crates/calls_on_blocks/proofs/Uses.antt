@@ -1,5 +1,4 @@
 -- The operations of each call that is served: each acts at one moment below.
-use Rattle.image_versions.specs.declared.version.Version.TheVariants.{One}
 use Rattle.calls_on_blocks.proofs.Vocabulary.{◌≡◌, ◌<◌, ℕ, true, List, [], length, Option, inl, inr, sym, subst, Super, IsBytes, Call, Reply, hart_count, Ret, Do, Uses, P, machine, program, HasInodes, IsMade, is_served, InodeType, Take, UnlockInode, Forget, Store, Fill, Enter, Clear, Empty, Install, StatFile, ReadFile, JoinFile, WriteFile, Shut, SetDirectory, Lend, LendDirectory, Release, Join, Leave, Say}
 use Rattle.inode_machine.specs.World.Op.{UpStart, Up, WalkDown, Down, Free, Claim, Slot, LockFile, LockOpen, CheckFile, Double}
 use Rattle.inode_machine.specs.World as above
@@ -21,7 +20,7 @@ is_bytes (calls.Write fd bytes) b e is =
 is_bytes call b e is = absurd is
 
 module _ (sizes : Super) (h : ℕ) (lt : h < hart_count) (inodes : HasInodes sizes) (call : Call) (e : is_served call ≡ true) where
-  within : (s : Before) (op : above.Op) (m : above.Answer op → Option above.Mark) (k : above.Answer op → P Reply) → May One call s op m k → Within sizes h op m
+  within : (s : Before) (op : above.Op) (m : above.Answer op → Option above.Mark) (k : above.Answer op → P Reply) → May sizes.version call s op m k → Within sizes h op m
   within s (Take n looking) m k may = ops.takes sizes h lt n looking m
   within s (UnlockInode n) m k may = ops.gives sizes h lt n m
   within s (UpStart absolute) m k may = ops.starts sizes h lt absolute m
@@ -55,9 +54,9 @@ module _ (sizes : Super) (h : ℕ) (lt : h < hart_count) (inodes : HasInodes siz
   within s Leave m k may = ops.leaves sizes h lt m
   within s Say m k may = ops.says sizes h lt m
 
-  uses : (s : Before) (p : P Reply) → AsksSo One call s p → Uses machine (Within sizes h) p
+  uses : (s : Before) (p : P Reply) → AsksSo sizes.version call s p → Uses (machine sizes.version) (Within sizes h) p
   uses s (Ret r) asks = tt
-  uses s (Do op m k) asks = (within s op m k asks.0.1, λ a. uses (after One call s op m k asks.0 a) (k a) (asks.1 a))
+  uses s (Do op m k) asks = (within s op m k asks.0.1, λ a. uses (after sizes.version call s op m k asks.0 a) (k a) (asks.1 a))
 
-  pub served_uses : Uses machine (Within sizes h) (program call)
-  served_uses = uses (holding [] fresh []) (program call) (calls_ask One call)
+  pub served_uses : Uses (machine sizes.version) (Within sizes h) (program sizes.version call)
+  served_uses = uses (holding [] fresh []) (program sizes.version call) (calls_ask sizes.version call)

@@ -1,8 +1,8 @@
 -- The result of a mounted file system's runs: one list of tree steps.
 use Rattle.std.specs.Prelude.{ℕ, List, ◌∷◌, ◌++◌, None}
-use Rattle.calls_on_blocks.specs.Vocabulary.{Super, sizes_of, Call, tree_in, Event, AllHonest, fresh, run, Both, Outside, MoveMachine, HasOneHistory, NoneClimbs, Alone, IsMountable, first_world, mounted}
+use Rattle.calls_on_blocks.specs.Vocabulary.{Super, sizes_of, version_in, Call, tree_in, Event, AllHonest, fresh, run, Both, Outside, MoveMachine, HasOneHistory, NoneClimbs, Alone, IsMountable, first_world, mounted}
 use Rattle.inode_machine.specs.World as above
-use Rattle.inode_machine.specs.VersionOne.{MakesItsMoves}
+use Rattle.inode_machine.specs.Making.{MakesItsMoves}
 use Rattle.calls_on_blocks.specs.Layer.{World}
 use Rattle.calls_on_blocks.specs.Theory.{block_calls}
 
@@ -50,18 +50,18 @@ pub record RunsOn (disk : List (List ℕ)) (failures : ℕ) (events : List (Even
 abbrev pub MountsHaveOneHistory : Type 0
 MountsHaveOneHistory =
     (disk : List (List ℕ)) (failures : ℕ) (events : List (Event Call Outside)) → RunsOn disk failures events → NoneClimbs events
-    → HasOneHistory (block_moves (sizes_of disk)) (tree_in disk) (first disk failures) events
+    → HasOneHistory (version_in disk) (block_moves (sizes_of disk)) (tree_in disk) (first disk failures) events
 
 -- And if one hart alone makes calls, for any paths.
 abbrev pub OneHartHasOneHistory : Type 0
 OneHartHasOneHistory =
     (disk : List (List ℕ)) (failures h : ℕ) (events : List (Event Call Outside)) → RunsOn disk failures events → Alone h events
-    → HasOneHistory (block_moves (sizes_of disk)) (tree_in disk) (first disk failures) events
+    → HasOneHistory (version_in disk) (block_moves (sizes_of disk)) (tree_in disk) (first disk failures) events
 
 -- Each of their events makes the moves that it places as code makes them, for any paths.
 abbrev pub MountsMakeMoves : Type 0
 MountsMakeMoves =
     (disk : List (List ℕ)) (failures : ℕ) (before later : List (Event Call Outside)) (e : Event Call Outside)
     → RunsOn disk failures (before ++ e ∷ later)
-    → MakesItsMoves (block_moves (sizes_of disk)) e
+    → MakesItsMoves (version_in disk) (block_moves (sizes_of disk)) e
     (run (block_calls (sizes_of disk)) before (fresh (block_calls (sizes_of disk)) (first disk failures)))

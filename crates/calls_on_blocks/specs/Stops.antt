@@ -1,6 +1,6 @@
 -- A stop at any event of a file system that is mounted: what its disk is then.
 use Rattle.std.specs.Prelude.{◌≡◌, ℕ, ◌≤◌, List, ◌++◌, length, Some}
-use Rattle.calls_on_blocks.specs.Vocabulary.{sizes_of, Call, Placed, Tree, tree_of, Chain, IsNamedPart, IsWellFormed, tree_in, Marks, no_marks, IsMarked, Event, State, AllHonest, fresh, run, before, Outside, HasOneHistory, NoneClimbs, Alone, IsMountable}
+use Rattle.calls_on_blocks.specs.Vocabulary.{sizes_of, version_in, Call, Placed, Tree, tree_of, Chain, IsNamedPart, IsWellFormed, tree_in, Marks, no_marks, IsMarked, Event, State, AllHonest, fresh, run, before, Outside, HasOneHistory, NoneClimbs, Alone, IsMountable}
 use Rattle.calls_on_blocks.specs.History.{block_moves, first, RunsOn}
 use Rattle.calls_on_blocks.specs.Theory.{block_calls}
 use Rattle.calls_on_blocks.specs.Marks.{marks_after, noted, told_between}
@@ -30,10 +30,15 @@ abbrev pub StopsLeaveImages : Type 0
 StopsLeaveImages = (disk : List (List ℕ)) (failures : ℕ) (events : List (Event Call Outside)) → AreEventsOn disk failures events
     → IsWellFormed (disk_after disk failures events)
 
+-- Its superblock is as it was: so the disk has the sizes and the version with which it was mounted.
+abbrev pub SizesStay : Type 0
+SizesStay = (disk : List (List ℕ)) (failures : ℕ) (events : List (Event Call Outside)) → AreEventsOn disk failures events
+    → sizes_of (disk_after disk failures events) ≡ sizes_of disk
+
 -- One list of tree steps explains the run. The entries of its first k events, for a k that the marks give, are a
 -- beginning of it. The disk's tree is what has names in the tree to which they lead.
 pub record LeavesABeginning (disk : List (List ℕ)) (failures : ℕ) (events : List (Event Call Outside)) : Type 0 where
-  pub history : HasOneHistory (block_moves (sizes_of disk)) (tree_in disk) (first disk failures) events
+  pub history : HasOneHistory (version_in disk) (block_moves (sizes_of disk)) (tree_in disk) (first disk failures) events
   pub k : ℕ
   pub marked : IsMarked (marks_at disk failures events) k
   pub past : k ≤ length events
@@ -42,7 +47,7 @@ pub record LeavesABeginning (disk : List (List ℕ)) (failures : ℕ) (events : 
   pub rest : List Placed
   pub begins : before k history.list ++ rest ≡ history.list
   pub tree : Tree
-  pub leads : Chain (tree_of (tree_in disk)) (before k history.list) tree
+  pub leads : Chain (version_in disk) (tree_of (tree_in disk)) (before k history.list) tree
   pub named : IsNamedPart tree (tree_of (tree_in (disk_after disk failures events)))
 
 -- So it is if no step found no room and no path climbs,

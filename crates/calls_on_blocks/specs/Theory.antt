@@ -1,6 +1,6 @@
 -- The calls that are served, as a theory over the machine below: what every list of events makes of it.
 use Rattle.std.specs.Prelude.{ℕ, Bool, true, false, ◌&&◌, ◌||◌, ◌==◌, nat_lt, List, length, Option, Some, None, is_some, if◌then◌else◌}
-use Rattle.calls_on_blocks.specs.Vocabulary.{Super, Call, OpenCall as Open, Read, Write, Link, Unlink, Mkdir, Chdir, Dup, Fstat, Close, Inherit, put, any_below, hart_count, descriptor_count, or_else, Theory, Began, Refuses, Begins, Code, Starts, lowered_calls, Part, code_part, TablesState, file_named, Kind, is_at, Refusal, NoSuchHart, Busy, PathTooLong, ZeroInPath, NotEmptyHart, NotCovered, calls_that, is_covered, path_limit, has_zero, are_bytes, asks_wrong, handlers}
+use Rattle.calls_on_blocks.specs.Vocabulary.{Super, Version, Call, OpenCall as Open, Read, Write, Link, Unlink, Mkdir, Chdir, Dup, Fstat, Close, Inherit, put, any_below, hart_count, descriptor_count, or_else, Theory, Began, Refuses, Begins, Code, Starts, lowered_calls, Part, code_part, TablesState, file_named, Kind, is_at, Refusal, NoSuchHart, Busy, PathTooLong, ZeroInPath, NotEmptyHart, NotCovered, calls_that, is_covered, path_limit, has_zero, are_bytes, asks_wrong, handlers}
 use Rattle.fs_machine.specs.Steps as steps
 use Rattle.fs_machine.specs.Premises as premises
 use Rattle.calls_on_blocks.specs.Layer.{SharedState, exec_shared, layer, shared_of}
@@ -23,8 +23,8 @@ is_served (Inherit child) = true
 abbrev pub serves : Call → Bool
 serves call = is_covered call && is_served call
 
-abbrev pub served_calls : Theory
-served_calls = calls_that serves
+abbrev pub served_calls : Version → Theory
+served_calls v = calls_that v serves
 
 -- ---- starts
 
@@ -96,15 +96,15 @@ abbrev pub begin_in : {S : Type 0} → ℕ → Call → (ℕ → Bool) → Share
 begin_in h call busy s t = if_hart (nat_lt h hart_count) (begun_by t (start_refusal h call busy s))
 
 -- it says whom its call reserves, and changes nothing else
-abbrev pub begins : (sizes : Super) → Starts served_calls (layer sizes)
+abbrev pub begins : (sizes : Super) → Starts (served_calls sizes.version) (layer sizes)
 begins sizes h call busy r = begin_in h call busy (shared_of r) (record r { children = put r.children h (child_of call) })
 
 abbrev pub block_calls : Super → Theory
-block_calls sizes = lowered_calls served_calls (layer sizes) (handlers sizes) (begins sizes)
+block_calls sizes = lowered_calls (served_calls sizes.version) (layer sizes) (handlers sizes) (begins sizes)
 
 -- ---- the code's part of it: all that harts share
 
-abbrev pub shared_part : (sizes : Super) → Part served_calls (layer sizes)
+abbrev pub shared_part : (sizes : Super) → Part (served_calls sizes.version) (layer sizes)
 shared_part sizes = record {
   Shared = SharedState;
   of = shared_of;
@@ -115,4 +115,4 @@ shared_part sizes = record {
 }
 
 abbrev pub block_code : (sizes : Super) → Code (block_calls sizes)
-block_code sizes = code_part served_calls (layer sizes) (handlers sizes) (begins sizes) (shared_part sizes) Kind steps.kind_of
+block_code sizes = code_part (served_calls sizes.version) (layer sizes) (handlers sizes) (begins sizes) (shared_part sizes) Kind steps.kind_of

@@ -5,7 +5,7 @@
 
 ghost use Rattle.calls_on_blocks.specs.Laws.{CallsAreLawful, CodeIsOfIt};
 ghost use Rattle.calls_on_blocks.specs.History.{MountsHaveOneHistory, MountsMakeMoves, OneHartHasOneHistory};
-ghost use Rattle.calls_on_blocks.specs.Stops.{MarksAreTold, OneHartLeavesABeginning, StopsLeaveABeginning, StopsLeaveImages};
+ghost use Rattle.calls_on_blocks.specs.Stops.{MarksAreTold, OneHartLeavesABeginning, SizesStay, StopsLeaveABeginning, StopsLeaveImages};
 ghost use Rattle.calls_on_blocks.specs.Whole.{CutsHaveReplies, MarksPartNone};
 ghost use Rattle.calls_on_blocks.specs.Heads.{LogsLeaveGoodHeads, LogsMayBegin};
 
@@ -42,9 +42,11 @@ pub fn mounts_make_moves()
 {}
 
 /// A mounted file system may stop in the middle of calls or of a commit, by the device's failure or not. Then its
-/// disk passes all checks as recovery sees it: it can be mounted again.
+/// disk passes all checks as recovery sees it: it can be mounted again. Its superblock is as it was, so that the disk
+/// has the sizes and the version with which it was mounted.
 pub fn stops_leave_images()
-    ensures { StopsLeaveImages }
+    ensures images { StopsLeaveImages }
+    ensures sizes { SizesStay }
 {}
 
 /// Crash safety, of definitions: the tree on that disk is what has names in the tree after a beginning of the one

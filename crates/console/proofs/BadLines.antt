@@ -1,7 +1,7 @@
 -- The first bad line of a script.
 use Rattle.console.proofs.Vocabulary.{◌≡◌, ℕ, List, Option, Some, None, Result, Ok, Err, sym, ConsoleFault}
 use Rattle.std.specs.Prelude.{map, option_map}
-use Rattle.console.specs.Vocabulary.{Schedule, bad_in, front_in, numbered}
+use Rattle.console.specs.Vocabulary.{Schedule, numbered}
 use Rattle.console.specs.Lines.{CourseOf, FailsTo, course_of, or_bad, script_course}
 use Rattle.console.specs.declared.fault.ConsoleFault.TheVariants as faults
 use Rattle.script.specs.Gives.{GivesFront, number_told}

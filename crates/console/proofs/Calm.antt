@@ -1,5 +1,5 @@
 -- Over a device that never fails no call is stopped.
-use Rattle.console.proofs.Vocabulary.{◌≡◌, ℕ, zero, suc, Bool, true, false, List, [], ◌∷◌, Option, Some, None, Result, Ok, Err, sym, ap, subst, inl, inr, IsWellFormed, Stop, ConsoleFault, Flow, PlanOf, Until, Verb, Doing, Behaviour, GoesOn, gives, in_case, followed_by, takes_memory, prints, IsOrMemory, IsWritten, RunOf, IsPassed, acts, acts_as, all_harts, flow_of, goes_on, happens, in_steps, is_enough, joined, line, lines, settles, starts, tells_flow, tells_waits, to_end, turn, turns, up_to, called, left_to, SessionOf, EventOfCall, Happens, doing_at, verb_of, Mode, History, HistoryBeside, IsUntold, TellsHistory, WhereSet, JudgesImage, CourseOf, TellsLine, NotesOf, run_in, EndsSo, RunsReader, RunsScript, known_at, One}
+use Rattle.console.proofs.Vocabulary.{◌≡◌, ℕ, zero, suc, Bool, true, false, List, [], ◌∷◌, Option, Some, None, Result, Ok, Err, sym, ap, subst, inl, inr, IsWellFormed, Stop, ConsoleFault, Flow, PlanOf, Until, Verb, Doing, Behaviour, GoesOn, gives, in_case, followed_by, takes_memory, prints, IsOrMemory, IsWritten, RunOf, IsPassed, acts, acts_as, all_harts, flow_of, goes_on, happens, in_steps, is_enough, joined, line, lines, settles, starts, tells_flow, tells_waits, to_end, turn, turns, up_to, called, left_to, SessionOf, EventOfCall, Happens, doing_at, verb_of, Mode, History, HistoryBeside, IsUntold, TellsHistory, WhereSet, JudgesImage, CourseOf, TellsLine, NotesOf, run_in, EndsSo, RunsReader, RunsScript, known_at}
 use Rattle.script.specs.Said as said
 use Rattle.console.specs.declared.fault.ConsoleFault.TheVariants as faults
 use Rattle.console.specs.declared.flow.Flow.TheVariants as flows
@@ -173,7 +173,7 @@ ended mode history notes (Err (faults.Read e)) fault between out unstopped same 
 ended mode history notes (Err (faults.Line n why)) fault between out unstopped same = absurd unstopped
 ended mode history notes (Err (faults.Stopped stop)) fault between out unstopped same = absurd unstopped
 
-of_run : (disk : List (List ℕ)) (fault : ConsoleFault) → IsWellFormed disk → IsNoStop {A = Unit {0}} (Err fault) → JudgesImage One disk fault
+of_run : (disk : List (List ℕ)) (fault : ConsoleFault) → IsWellFormed disk → IsNoStop {A = Unit {0}} (Err fault) → JudgesImage disk fault
 of_run disk faults.Memory mounted unstopped = tt
 of_run disk (faults.Write e) mounted unstopped = mounted
 of_run disk (faults.Image f) mounted unstopped = absurd unstopped
@@ -181,7 +181,7 @@ of_run disk (faults.Read e) mounted unstopped = absurd unstopped
 of_run disk (faults.Line n why) mounted unstopped = absurd unstopped
 of_run disk (faults.Stopped stop) mounted unstopped = absurd unstopped
 
-of_line : (disk : List (List ℕ)) (n : ℕ) (fault : ConsoleFault) → IsWellFormed disk → TellsLine n fault → JudgesImage One disk fault
+of_line : (disk : List (List ℕ)) (n : ℕ) (fault : ConsoleFault) → IsWellFormed disk → TellsLine n fault → JudgesImage disk fault
 of_line disk n faults.Memory mounted tells = tt
 of_line disk n (faults.Line m why) mounted tells = mounted
 of_line disk n (faults.Write e) mounted tells = absurd tells
@@ -190,12 +190,12 @@ of_line disk n (faults.Read e) mounted tells = absurd tells
 of_line disk n (faults.Stopped stop) mounted tells = absurd tells
 
 module _ {D : Type 0} (contents : D → List (List ℕ)) (failures : D → ℕ) (calm : KeepsStill contents failures) (disk : List (List ℕ)) (mounted : IsWellFormed disk) where
-  script_judged : (mode : Mode) (history : HistoryBeside) (s t : SessionOf D) (course : Result CourseOf ℕ) (fault : ConsoleFault) (out out' : Option (List ℕ)) → s.world.harts.stopped ≡ false → RunsScript contents failures mode history s course (Err fault) t out out' → JudgesImage One disk fault
+  script_judged : (mode : Mode) (history : HistoryBeside) (s t : SessionOf D) (course : Result CourseOf ℕ) (fault : ConsoleFault) (out out' : Option (List ℕ)) → s.world.harts.stopped ≡ false → RunsScript contents failures mode history s course (Err fault) t out out' → JudgesImage disk fault
   script_judged mode history s t (Err n) fault out out' still runs = of_line disk n fault mounted runs.0
   script_judged mode history s t (Ok course) fault out out' still (inl runs) =
       of_run disk fault mounted
       (ended mode (history runs.first (known_at t runs.kept)) runs.notes runs.ends fault runs.between out' (lines_still contents failures calm course.lines _ runs.runs.events runs.runs.text runs.ends _ still runs.runs.does).1 runs.end)
-  script_judged mode history s t (Ok course) fault out out' still (inr nothing) = subst (λ f. JudgesImage One disk f) (sym (memory fault nothing.memory)) tt
+  script_judged mode history s t (Ok course) fault out out' still (inr nothing) = subst (λ f. JudgesImage disk f) (sym (memory fault nothing.memory)) tt
     where
       fault_in : Result (Unit {0}) ConsoleFault → ConsoleFault
       fault_in (Ok u) = faults.Memory
@@ -204,7 +204,7 @@ module _ {D : Type 0} (contents : D → List (List ℕ)) (failures : D → ℕ) 
       memory : (f : ConsoleFault) → ◌≡◌ {A = Result (Unit {0}) ConsoleFault} (Err f) (Err faults.Memory) → f ≡ faults.Memory
       memory f e = ap fault_in e
 
-  pub run_judged : (mode : Mode) (history : HistoryBeside) (s t : SessionOf D) (script : Option (List ℕ)) (fault : ConsoleFault) (out out' : Option (List ℕ)) → s.world.harts.stopped ≡ false → RunsReader contents failures mode history s script (Err fault) t out out' → JudgesImage One disk fault
+  pub run_judged : (mode : Mode) (history : HistoryBeside) (s t : SessionOf D) (script : Option (List ℕ)) (fault : ConsoleFault) (out out' : Option (List ℕ)) → s.world.harts.stopped ≡ false → RunsReader contents failures mode history s script (Err fault) t out out' → JudgesImage disk fault
   run_judged mode history s t script fault out out' still (inr read) = script_judged mode history s t _ fault out out' still read.2
   run_judged mode history s t script (faults.Read e) out out' still (inl unread) = mounted
   run_judged mode history s t script faults.Memory out out' still (inl unread) = tt

@@ -1,7 +1,7 @@
 -- If a text shows the history of a run in one way, it shows it in another, of a run that was made and kept: and so on
 -- an image.
 use Rattle.std.specs.Prelude.{◌⊎◌, ◌^◌}
-use Rattle.console.proofs.Vocabulary.{◌≡◌, ◌<◌, ℕ, Bool, true, false, List, length, Option, Some, None, Result, Ok, Err, refl, sym, ap, ◌∙◌, subst, inl, inr, blocks_of, tree_in, TreeData, KeptTree, nothing_kept, HasKept, RunOn, StartsOn, never, never_of, owned, refused_by_run, Mode, ConsoleFault, IfTold, IsPrintedAndNoted, HistoryBeside, TellsHistory, WhereSet, HasNoList, IsFound, IsOwn, IsUnfound, history_from, history_of, CourseOf, KeptRun, NotesOf, all_noted, no_notes, none_kept, run_in, PromptsReader, EndsSo, PrintsAll, RunsReader, RunsScript, EventOfCall, SessionOf, with_beside, known_at, some_lacks_place, was_told}
+use Rattle.console.proofs.Vocabulary.{◌≡◌, ◌<◌, ℕ, Bool, true, false, List, length, Option, Some, None, Result, Ok, Err, refl, sym, ap, ◌∙◌, subst, inl, inr, blocks_of, tree_in, version_in, Version, TreeData, KeptTree, nothing_kept, HasKept, RunOn, StartsOn, never, never_of, owned, refused_by_run, Mode, ConsoleFault, IfTold, IsPrintedAndNoted, HistoryBeside, TellsHistory, WhereSet, HasNoList, IsFound, IsOwn, IsUnfound, history_from, history_of, CourseOf, KeptRun, NotesOf, all_noted, no_notes, none_kept, run_in, PromptsReader, EndsSo, PrintsAll, RunsReader, RunsScript, EventOfCall, SessionOf, with_beside, known_at, some_lacks_place, was_told}
 use Rattle.console.specs.declared.fault.ConsoleFault.TheVariants as faults
 use Rattle.console.proofs.Chaining.{Chain, lines_chain, prompts_all_chain}
 use Rattle.console.proofs.Noting.{IsKept, IsRun, events_kept, kept_first, kept_run}
@@ -88,7 +88,7 @@ module _ {D : Type 0} (contents : D → List (List ℕ)) (failures : D → ℕ) 
 -- ---- on an image
 
 module _ (image : List ℕ) (base : TreeData) (s : SessionOf (List ℕ)) (starts : StartsOn image s.world) (is : base ≡ tree_in (blocks_of image)) (first kept : Option KeptTree) (run : KeptRun) (t : SessionOf (List ℕ))
-    (made : IsRun blocks_of never s.world.sizes s.world.harts first run t.world.harts kept) (begins : first ≡ Some (nothing_kept base)) (few : length run.events < 2 ^ 64) where
+    (made : IsRun blocks_of never s.world.sizes s.world.harts first run t.world.harts kept) (begins : first ≡ Some (nothing_kept s.world.sizes.version base)) (few : length run.events < 2 ^ 64) where
   abbrev made_on : RunOn image run.events
   made_on = record { world = s.world; outcomes = run.outcomes; new = t.world.harts; starts = starts; history = made.0 }
 
@@ -98,17 +98,17 @@ module _ (image : List ℕ) (base : TreeData) (s : SessionOf (List ℕ)) (starts
       let told = was_told kept k (some_lacks_place t.world.harts) same in
       record {
         kept = told.kept;
-        keeps = made.1 (nothing_kept (tree_in (blocks_of image))) told.kept (begins ∙ ap (λ (b : TreeData). Some (nothing_kept b)) is) told.was;
+        keeps = made.1 (nothing_kept (version_in (blocks_of image)) (tree_in (blocks_of image))) told.kept (begins ∙ (λ i. Some (nothing_kept (starts.mounted.sizes i).version (is i)))) told.was;
         is = told.is;
       }
 
-  own_on : (o : Option KeptTree) → HasKept image run.events few made_on o → (text : List ℕ) → IsFound (tree_in (blocks_of image)) o run text → IsOwn image run text
+  own_on : (o : Option KeptTree) → HasKept image run.events few made_on o → (text : List ℕ) → IsFound (version_in (blocks_of image)) (tree_in (blocks_of image)) o run text → IsOwn image run text
   own_on None keeps text found = absurd found.hands
   own_on (Some k) keeps text found =
       let own = owned image run.events few made_on k (keeps k refl) found.list found.explains found.flat found.hands found.room in
       record { list = found.list; owns = own.0; outcomes = ap (λ (r : RunOn image run.events). r.outcomes) own.1; text_is = found.text_is }
 
-  none_on : (o : Option KeptTree) → HasKept image run.events few made_on o → (text : List ℕ) → IsUnfound (tree_in (blocks_of image)) o run text → HasNoList image run text
+  none_on : (o : Option KeptTree) → HasKept image run.events few made_on o → (text : List ℕ) → IsUnfound (version_in (blocks_of image)) (tree_in (blocks_of image)) o run text → HasNoList image run text
   none_on o keeps text none =
       record {
         why = none.why;
@@ -121,11 +121,12 @@ module _ (image : List ℕ) (base : TreeData) (s : SessionOf (List ℕ)) (starts
         text_is = none.text_is;
       }
 
-  told_on : (text : List ℕ) → IsFound (tree_in (blocks_of image)) (known_at t kept) run text ⊎ IsUnfound (tree_in (blocks_of image)) (known_at t kept) run text → IsOwn image run text ⊎ HasNoList image run text
+  told_on : (text : List ℕ) → IsFound (version_in (blocks_of image)) (tree_in (blocks_of image)) (known_at t kept) run text ⊎ IsUnfound (version_in (blocks_of image)) (tree_in (blocks_of image)) (known_at t kept) run text → IsOwn image run text ⊎ HasNoList image run text
   told_on text (inl found) = inl (own_on (known_at t kept) known_on text found)
   told_on text (inr none) = inr (none_on (known_at t kept) known_on text none)
 
 pub history_is : (image : List ℕ) (base : TreeData) (s : SessionOf (List ℕ)) → StartsOn image s.world → base ≡ tree_in (blocks_of image) → (first kept : Option KeptTree) (run : KeptRun) (t : SessionOf (List ℕ)) → IsRun blocks_of never s.world.sizes s.world.harts first run t.world.harts kept
-    → (text : List ℕ) → history_from base first (known_at t kept) run text → history_of image first (known_at t kept) run text
+    → (text : List ℕ) → history_from s.world.sizes.version base first (known_at t kept) run text → history_of image first (known_at t kept) run text
 history_is image base s starts is first kept run t made text told =
-    told_on image base s starts is first kept run t made told.0 told.1 text (subst (λ (b : TreeData). IsFound b (known_at t kept) run text ⊎ IsUnfound b (known_at t kept) run text) is told.2)
+    told_on image base s starts is first kept run t made told.0 told.1 text
+    (subst (λ (p : Version × TreeData). IsFound p.0 p.1 (known_at t kept) run text ⊎ IsUnfound p.0 p.1 (known_at t kept) run text) (λ i. ((starts.mounted.sizes i).version, is i)) told.2)

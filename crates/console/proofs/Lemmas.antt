@@ -1,10 +1,10 @@
 -- What the proofs of this crate's functions use: its lemmas, and what they speak of.
-pub use Rattle.console.proofs.Vocabulary.{Appends, ConsoleFault, Err, FailsTo, Flow, Help, IsWellFormed, JudgesImage, QueuedCalls, List, Memory, Moves, None, NotesOf, Nothing, Ok, OnOk, Option, PromptsAll, PromptsReader, Quit, RefusesDisk, Rests, Result, Run, RunOf, Runs, RunsReader, [], all_harts, ap, arith, asked_in, codes, doing_at, drop, false, get_or_past, hart_in, history_from, history_kept, history_on, beside_in, nothing_kept, Some, in_steps, inr, length, length-map, line_said, map, none_left, numbered, of_mount, refl, run_in, state, subst, suc, sym, to_end, true, up_to, ℕ, ◌++◌, ◌+◌, ◌-◌, ◌<◌, ◌∙◌, ◌∷◌, ◌≡◌, ◌≤◌, One}
+pub use Rattle.console.proofs.Vocabulary.{Appends, ConsoleFault, EndsSo, Err, FailsTo, Flow, Help, IsWellFormed, JudgesImage, QueuedCalls, List, Memory, Moves, None, NotesOf, Nothing, Ok, OnOk, Option, PromptsAll, PromptsReader, Quit, RefusesDisk, Rests, Result, Run, RunOf, Runs, RunsReader, [], all_harts, ap, arith, asked_in, codes, doing_at, drop, false, get_or_past, hart_in, history_from, history_kept, history_on, beside_in, nothing_kept, Some, in_steps, inr, length, length-map, line_said, map, none_left, numbered, of_mount, refl, run_in, state, subst, suc, sym, to_end, true, up_to, ℕ, ◌++◌, ◌+◌, ◌-◌, ◌<◌, ◌∙◌, ◌∷◌, ◌≡◌, ◌≤◌}
 unfoldable pub use Rattle.console.proofs.Vocabulary.{blocks_of, calls_text, entries_text, last_text, lines, queued, tells_waits, timeline_rows, turn, turns}
 pub use Rattle.console.specs.Vocabulary.{State, asked_by, call_said, shape_line, shape_of, stat_text, styled_decimal}
 pub use Rattle.std.proofs.Common.{rules, tests, true≢false}
 pub use Rattle.script.proofs.Appending.{tells_both}
-pub use Rattle.console.proofs.Mounting.{judged_as, image_prompted, image_run, image_untaken, mount_refused, mounted_on, not_taken, prompted_on, ran_on, refused_judged}
+pub use Rattle.console.proofs.Mounting.{image_prompted, image_run, image_untaken, judged_at, judged_so, mount_refused, mounted_on, not_taken, prompted_on, ran_on, refused_judged}
 pub use Rattle.console.proofs.Telling.{found, found_on, line_told, list_told, unfound, unfound_on, why_told}
 pub use Rattle.console.specs.Lines.{course, or_bad}
 pub use Rattle.std.proofs.lemmas.Iterator.Adapters.{YieldsList-from_vec}

@@ -1,9 +1,9 @@
 -- A disk in memory is mounted, and what is run on it; or it isn't mounted.
-use Rattle.console.proofs.Vocabulary.{◌≡◌, ℕ, arith, Bool, true, false, List, [], Option, None, Result, Err, replicate, refl, sym, ap, ◌∙◌, subst, inl, inr, Vec, Global, blocks_of, sizes_of, buffer_count, hart_count, unused_from, IsPlaced, IsWellFormed, JudgesFault, fault_count_of, tree_in, MountFault, TreeData, IsSettled, HartsOf, never, KeptTree, Mode, ConsoleFault, of_mount, WhereSet, history_from, history_of, JudgesImage, RefusesDisk, bytes_for, KeptRun, PromptsImage, PromptsOn, PromptsReader, RunsReader, HandsOut, IsMountedOn, IsUntaken, RunsImage, RunsOn, TakesNoImage, SessionOf, known_at, One}
+use Rattle.console.proofs.Vocabulary.{◌≡◌, ℕ, arith, Bool, true, false, List, [], Option, None, Result, Err, replicate, refl, sym, ap, ◌∙◌, subst, inl, inr, Vec, Global, blocks_of, sizes_of, buffer_count, hart_count, unused_from, IsPlaced, IsWellFormed, JudgesFault, fault_count_of, tree_in, MountFault, TreeData, IsSettled, HartsOf, never, KeptTree, Mode, ConsoleFault, of_mount, WhereSet, history_from, history_of, JudgesImage, RefusesDisk, bytes_for, KeptRun, PromptsImage, PromptsOn, PromptsReader, RunsReader, HandsOut, IsMountedOn, IsUntaken, RunsImage, RunsOn, TakesNoImage, SessionOf, known_at}
+use Rattle.console.proofs.Vocabulary.{Version, version_in}
+use Rattle.image_tree.specs.Damage.{JudgesFault as JudgesFaultAt}
 use Rattle.group_log.specs.declared.phase.Phase.TheVariants.{Open}
 use Rattle.image_tree.specs.declared.fault.MountFault.TheVariants as mounts
-use Rattle.image_tree.specs.Damage as images
-use Rattle.image_versions.specs.declared.version.Version.{Version}
 use Rattle.hart_core.specs.Mounting.{Rests}
 use Rattle.console.specs.declared.fault.ConsoleFault.TheVariants as faults
 use Rattle.console.proofs.Keeping.{history_is, prompts_again, reader_again}
@@ -11,18 +11,24 @@ use Rattle.console.proofs.Noting.{IsRun}
 
 -- ---- a disk that isn't mounted
 
+-- what is judged at the version that was found is judged of the disk
+pub judged_at : (disk after : List (List ℕ)) (v : Version) (fault : MountFault) → after ≡ disk → v ≡ version_in disk → JudgesFaultAt v after fault → JudgesFault disk fault
+judged_at disk after v fault kept found judges =
+    subst (λ (d : List (List ℕ)). JudgesFaultAt (version_in d) d fault) kept
+    (subst (λ (w : Version). JudgesFaultAt w after fault) (found ∙ ap version_in (sym kept)) judges)
+
 pub mount_refused : (disk : List (List ℕ)) (fault : MountFault) → JudgesFault disk fault → fault_count_of fault 0 ≡ 0 → RefusesDisk disk (of_mount fault)
 mount_refused disk (mounts.Damaged d) judged none = judged
 mount_refused disk mounts.DeviceFault judged none = let bad : 1 ≡ 0 = none in absurd (omega (arith, bad))
 mount_refused disk mounts.NoMemory judged none = tt
 
--- of one that is only examined, as an image of any version
-pub judged_as : (v : Version) (disk : List (List ℕ)) (fault : MountFault) → images.JudgesFault v disk fault → fault_count_of fault 0 ≡ 0 → JudgesImage v disk (of_mount fault)
-judged_as v disk (mounts.Damaged d) judged none = judged
-judged_as v disk mounts.DeviceFault judged none = let bad : 1 ≡ 0 = none in absurd (omega (arith, bad))
-judged_as v disk mounts.NoMemory judged none = tt
+-- of one that is only examined
+pub judged_so : (disk : List (List ℕ)) (fault : MountFault) → JudgesFault disk fault → fault_count_of fault 0 ≡ 0 → JudgesImage disk (of_mount fault)
+judged_so disk (mounts.Damaged d) judged none = judged
+judged_so disk mounts.DeviceFault judged none = let bad : 1 ≡ 0 = none in absurd (omega (arith, bad))
+judged_so disk mounts.NoMemory judged none = tt
 
-pub refused_judged : (disk : List (List ℕ)) (fault : ConsoleFault) → RefusesDisk disk fault → JudgesImage One disk fault
+pub refused_judged : (disk : List (List ℕ)) (fault : ConsoleFault) → RefusesDisk disk fault → JudgesImage disk fault
 refused_judged disk (faults.Image (mounts.Damaged d)) refuses = refuses
 refused_judged disk (faults.Image mounts.DeviceFault) refuses = absurd refuses
 refused_judged disk (faults.Image mounts.NoMemory) refuses = absurd refuses
@@ -91,11 +97,11 @@ unset true this other is holds = absurd (cc is)
 unset false this other is holds = holds
 
 module _ (mode : Mode) (bytes : List ℕ) (base : TreeData) (first last : SessionOf (List ℕ)) (on : IsMountedOn mode.explain bytes base first) where
-  tells : mode.explain ≡ true → (begun kept : Option KeptTree) (run : KeptRun) (t : SessionOf (List ℕ)) → IsRun blocks_of never first.world.sizes first.world.harts begun run t.world.harts kept → (text : List ℕ) → history_from base begun (known_at t kept) run text
+  tells : mode.explain ≡ true → (begun kept : Option KeptTree) (run : KeptRun) (t : SessionOf (List ℕ)) → IsRun blocks_of never first.world.sizes first.world.harts begun run t.world.harts kept → (text : List ℕ) → history_from first.world.sizes.version base begun (known_at t kept) run text
       → history_of bytes begun (known_at t kept) run text
   tells is = history_is bytes base first on.starts (wanted_base mode.explain base (tree_in (blocks_of bytes)) is on.base_is)
 
-  pub ran_on : (script : Option (List ℕ)) (ended : Result (Unit {0}) ConsoleFault) (result : Result (List ℕ) ConsoleFault) (out out' : Option (List ℕ)) → RunsReader blocks_of never mode (history_from base) first script ended last out out'
+  pub ran_on : (script : Option (List ℕ)) (ended : Result (Unit {0}) ConsoleFault) (result : Result (List ℕ) ConsoleFault) (out out' : Option (List ℕ)) → RunsReader blocks_of never mode (history_from first.world.sizes.version base) first script ended last out out'
       → HandsOut last.world.harts.core.log.cache.device ended result → RunsOn blocks_of never mode bytes bytes script result out out'
   ran_on script ended result out out' runs hands = record {
     first = first;
@@ -103,11 +109,11 @@ module _ (mode : Mode) (bytes : List ℕ) (base : TreeData) (first last : Sessio
     ended = ended;
     rests = on.starts.mounted.rests;
     idle = on.idle;
-    runs = reader_again blocks_of never mode (history_from base) (history_of bytes) first tells script ended last out out' runs;
+    runs = reader_again blocks_of never mode (history_from first.world.sizes.version base) (history_of bytes) first tells script ended last out out' runs;
     hands = hands;
   }
 
-  pub prompted_on : (help : List ℕ) (typed : Option (List ℕ)) (ended : Result (Unit {0}) ConsoleFault) (result : Result (List ℕ) ConsoleFault) (out out' : Option (List ℕ)) → PromptsReader blocks_of never help mode (history_from base) first typed ended last out out'
+  pub prompted_on : (help : List ℕ) (typed : Option (List ℕ)) (ended : Result (Unit {0}) ConsoleFault) (result : Result (List ℕ) ConsoleFault) (out out' : Option (List ℕ)) → PromptsReader blocks_of never help mode (history_from first.world.sizes.version base) first typed ended last out out'
       → HandsOut last.world.harts.core.log.cache.device ended result → PromptsOn blocks_of never help mode bytes bytes typed result out out'
   prompted_on help typed ended result out out' prompts hands = record {
     first = first;
@@ -115,7 +121,7 @@ module _ (mode : Mode) (bytes : List ℕ) (base : TreeData) (first last : Sessio
     ended = ended;
     rests = on.starts.mounted.rests;
     idle = on.idle;
-    runs = prompts_again blocks_of never mode (history_from base) (history_of bytes) first tells help typed ended last out out' prompts;
+    runs = prompts_again blocks_of never mode (history_from first.world.sizes.version base) (history_of bytes) first tells help typed ended last out out' prompts;
     hands = hands;
   }
 

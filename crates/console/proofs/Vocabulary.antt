@@ -3,7 +3,7 @@ pub use Rattle.hart_core.proofs.Vocabulary.{Answers, Began, Begins, Bool, Code, 
 unfoldable pub use Rattle.hart_core.proofs.Vocabulary.{sizes_of, unused_from}
 pub use Rattle.fs_machine.proofs.Vocabulary.{CheckFile, Claim, Close, Commit, Directory, Double, Down, Err, Fails, Freed, Get, GiveDescriptor, GuardState, Held, IfSome, Join, JoinToWrite, Leave, Lock, LockFile, LockOpen, Number, Ok, OnOk, Put, Read, Reply, Result, SeatState, SetDirectory, SlotState, State, TablesState, TakeDescriptor, TakePlace, Unlock, Up, Walked, claim_first, claims, commit_if, cond, got_by, in_log, in_tables, join_if, join_unless, join_waits, joins, kind_of, limit_of, lock_open, place_named, place_of, read_block, turn_is_out, with_open, write_log}
 unfoldable pub use Rattle.fs_machine.proofs.Vocabulary.{exec, get_of, lock_of}
-pub use Rattle.console.specs.Vocabulary.{AreHarts, Appends, Asked, ExplainRefused, Global, HandsOutKept, HasNoted, Help, IsRefusedBy, IsRefusedFor, IsRefusedSo, KeptTree, Mode, NeverFoundRoom, NotesEvent, OwnsRun, SawRoom, any_climbs, heard_by, heard_in, nothing_kept, Nothing, Quit, Run, StartsOn, Stop, asked_in, entry_line, line_said, numbered, said_of, ended, some_lacks_place}
+pub use Rattle.console.specs.Vocabulary.{AreHarts, Appends, Asked, ExplainRefused, Global, HandsOutKept, HasNoted, Help, IsRefusedBy, IsRefusedFor, IsRefusedSo, KeptTree, Mode, NeverFoundRoom, NotesEvent, OwnsRun, SawRoom, any_climbs, heard_by, heard_in, nothing_kept, Nothing, Quit, Run, StartsOn, Version, version_in, Stop, asked_in, entry_line, line_said, numbered, said_of, ended, some_lacks_place}
 unfoldable pub use Rattle.console.specs.Vocabulary.{blocks_of, typed_lines}
 pub use Rattle.image_tree.proofs.Vocabulary.{Vec, drop, eqb, get_or-map}
 pub use Rattle.script.proofs.Vocabulary.{All, End, Line, Upto, at_drop_all, at_drop_more, codes, length-drop}
@@ -72,4 +72,3 @@ pub use Rattle.image_tree.specs.declared.fault.MountFault.{MountFault}
 pub use Rattle.plain_tree.specs.declared.call.Call.{Call}
 pub use Rattle.plain_tree.specs.declared.trace.Placed.{Placed}
 pub use Rattle.plain_tree.specs.declared.trace.Trace.{Trace}
-pub use Rattle.console.specs.Vocabulary.{One}

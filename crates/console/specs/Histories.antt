@@ -1,6 +1,6 @@
 -- What is printed of a run's history, with --explain.
 use Rattle.std.specs.Prelude.{◌≡◌, ◌⊎◌, ◌<◌, ◌^◌, ℕ, Bool, true, false, List, [], ◌∷◌, ◌++◌, length, Option, Some, Result, Ok, Err, codes, decimal}
-use Rattle.console.specs.Vocabulary.{Appends, blocks_of, KeptTree, Placed, Explains, TreeData, tree_in, Event, trace_in, any_climbs, nothing_kept, HandsOutKept, SawRoom, IsRefusedBy, IsRefusedFor, IsRefusedSo, NeverFoundRoom, OwnsRun, RunOn, number_of, name_of, ExplainRefused, entry_line}
+use Rattle.console.specs.Vocabulary.{Appends, blocks_of, KeptTree, Placed, Explains, TreeData, Version, tree_in, version_in, Event, trace_in, any_climbs, nothing_kept, HandsOutKept, SawRoom, IsRefusedBy, IsRefusedFor, IsRefusedSo, NeverFoundRoom, OwnsRun, RunOn, number_of, name_of, ExplainRefused, entry_line}
 use Rattle.explain.specs.declared.refused.ExplainRefused.TheVariants as refused
 use Rattle.console.specs.declared.fault.ConsoleFault.{ConsoleFault}
 use Rattle.console.specs.declared.fault.ConsoleFault.TheVariants as faults
@@ -34,31 +34,32 @@ HasLine (refused.Damaged d) = Unit {0}
 HasLine refused.FullSeen = Unit {0}
 HasLine refused.Climbs = Unit {0}
 
--- ---- of events' outcomes, from a tree on, and of what is kept beside them at the end
+-- ---- of events' outcomes, from a tree of a version on, and of what is kept beside them at the end
 
 -- a list that explains what the run showed; it is the one that was kept, if that does
-pub record IsFound (base : TreeData) (kept : Option KeptTree) (run : KeptRun) (text : List ℕ) : Type 0 where
+pub record IsFound (version : Version) (base : TreeData) (kept : Option KeptTree) (run : KeptRun) (text : List ℕ) : Type 0 where
   pub list : List Placed
-  pub explains : Explains base (trace_in run.events run.outcomes) list
+  pub explains : Explains version base (trace_in run.events run.outcomes) list
   pub flat : any_climbs (trace_in run.events run.outcomes).calls ≡ false
-  pub hands : HandsOutKept kept base (trace_in run.events run.outcomes) list
+  pub hands : HandsOutKept version kept base (trace_in run.events run.outcomes) list
   pub room : SawRoom kept
   pub text_is : text ≡ entries_text list
 
 -- no list is found, and why
-pub record IsUnfound (base : TreeData) (kept : Option KeptTree) (run : KeptRun) (text : List ℕ) : Type 0 where
+pub record IsUnfound (version : Version) (base : TreeData) (kept : Option KeptTree) (run : KeptRun) (text : List ℕ) : Type 0 where
   pub why : ExplainRefused
   pub has_line : HasLine why
-  pub refused : IsRefusedBy kept base (trace_in run.events run.outcomes) why
+  pub refused : IsRefusedBy version kept base (trace_in run.events run.outcomes) why
   pub text_is : text ≡ why_line why
 
 -- the tree is kept from this one on, beside a run that isn't longer than a list in memory can be
-abbrev pub history_from : TreeData → HistoryBeside
-history_from base first kept run text =
-    (first ≡ Some (nothing_kept base)) × (length run.events < 2 ^ 64) × (IsFound base kept run text ⊎ IsUnfound base kept run text)
+abbrev pub history_from : Version → TreeData → HistoryBeside
+history_from version base first kept run text =
+    (first ≡ Some (nothing_kept version base)) × (length run.events < 2 ^ 64)
+    × (IsFound version base kept run text ⊎ IsUnfound version base kept run text)
 
-abbrev pub history_kept : TreeData → Option KeptTree → History
-history_kept base kept = history_from base (Some (nothing_kept base)) kept
+abbrev pub history_kept : Version → TreeData → Option KeptTree → History
+history_kept version base kept = history_from version base (Some (nothing_kept version base)) kept
 
 -- ---- of events on an image
 
@@ -99,7 +100,7 @@ module _ (image : List ℕ) (run : KeptRun) where
     pub why : ExplainRefused
     pub has_line : HasLine why
     pub refused_so : IsRefusedSo image run.events why
-    pub refused : IsRefusedFor (tree_in (blocks_of image)) (trace_in run.events run.outcomes) why
+    pub refused : IsRefusedFor (version_in (blocks_of image)) (tree_in (blocks_of image)) (trace_in run.events run.outcomes) why
         ⊎ ((why ≡ refused.FullSeen) × NeverHadRoom)
     pub text_is : text ≡ why_line why
 

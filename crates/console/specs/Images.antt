@@ -1,7 +1,6 @@
 -- The image that a script runs on, and why it isn't taken.
-use Rattle.std.specs.Prelude.{ℕ, Bool, if◌then◌else◌, List, [], Option, Some, None, Vec}
-use Rattle.console.specs.Vocabulary.{Global, blocks_of, IsFirstDamage, Version, One, version_of, image_of}
-use Rattle.image_tree.specs.Damage as images
+use Rattle.std.specs.Prelude.{ℕ, List, [], Option, Some, None, Vec}
+use Rattle.console.specs.Vocabulary.{Global, blocks_of, IsFirstDamage, IsWellFormed, One, image_of}
 use Rattle.image_tree.specs.declared.fault.MountFault.TheVariants as mounts
 use Rattle.console.specs.declared.fault.ConsoleFault.{ConsoleFault}
 use Rattle.console.specs.declared.fault.ConsoleFault.TheVariants.{Image, Read, Write, Line, Stopped, Memory}
@@ -18,11 +17,6 @@ bytes_for (Some bytes) = bytes.items
 abbrev pub disk_for : Option (Vec ℕ Global) → List (List ℕ)
 disk_for image = blocks_of (bytes_for image)
 
--- The version of image as which a disk is taken. If it is only examined, it is the one that its magic number says; a
--- script runs on images of version 1.
-abbrev pub taken_as : Bool → List (List ℕ) → Version
-taken_as check disk = if check then version_of disk else One
-
 -- why a disk in memory isn't mounted: its first damage, or want of memory
 abbrev pub RefusesDisk : List (List ℕ) → ConsoleFault → Type 0
 RefusesDisk disk (Image (mounts.Damaged d)) = IsFirstDamage disk d
@@ -34,14 +28,14 @@ RefusesDisk disk (Line n why) = ⊥
 RefusesDisk disk (Stopped s) = ⊥
 RefusesDisk disk Memory = Unit {0}
 
--- Why a run on a disk in memory, taken as an image of a version, has no end. A refused image is refused for its first
--- damage. All else is reported of a mounted image, and this disk never fails.
-abbrev pub JudgesImage : Version → List (List ℕ) → ConsoleFault → Type 0
-JudgesImage v disk (Image (mounts.Damaged d)) = images.IsFirstDamage v disk d
-JudgesImage v disk (Image mounts.DeviceFault) = ⊥
-JudgesImage v disk (Image mounts.NoMemory) = ⊥
-JudgesImage v disk (Read e) = images.IsWellFormed v disk
-JudgesImage v disk (Write e) = images.IsWellFormed v disk
-JudgesImage v disk (Line n why) = images.IsWellFormed v disk
-JudgesImage v disk (Stopped s) = ⊥
-JudgesImage v disk Memory = Unit {0}
+-- Why a run on a disk in memory has no end. A refused image is refused for its first damage. All else is reported of a
+-- mounted image, or of one that is examined, and this disk never fails.
+abbrev pub JudgesImage : List (List ℕ) → ConsoleFault → Type 0
+JudgesImage disk (Image (mounts.Damaged d)) = IsFirstDamage disk d
+JudgesImage disk (Image mounts.DeviceFault) = ⊥
+JudgesImage disk (Image mounts.NoMemory) = ⊥
+JudgesImage disk (Read e) = IsWellFormed disk
+JudgesImage disk (Write e) = IsWellFormed disk
+JudgesImage disk (Line n why) = IsWellFormed disk
+JudgesImage disk (Stopped s) = ⊥
+JudgesImage disk Memory = Unit {0}

@@ -23,7 +23,7 @@ pub use Rattle.hart_core.specs.Worlds.{Answers, Makes}
 pub use Rattle.hart_core.specs.declared.outcome.Stop.TheVariants.{DeviceFault}
 pub use Rattle.hart_core.specs.declared.starts.StartRefused.TheVariants.{Busy, NoSuchHart, NotEmptyHart, PathTooLong, TooLong, ZeroInPath}
 pub use Rattle.image_tree.specs.Shape.{shape_of}
-pub use Rattle.image_tree.specs.Versions.{version_of}
+pub use Rattle.fs_layout.specs.Recovered.{version_in}
 pub use Rattle.image_versions.specs.declared.version.Version.{Version}
 pub use Rattle.image_versions.specs.declared.version.Version.TheVariants.{One}
 pub use Rattle.mkfs.specs.Image.{image_of}

@@ -8,8 +8,7 @@ ghost use Rattle.console.specs.Scripts.{IsMountedOn};
 use crate::fault::ConsoleFault;
 use crate::session::Session;
 use block_device::MemoryDisk;
-use image_tree::tree_of;
-use image_versions::Version;
+use image_tree::{find_version, tree_of};
 use plain_tree::Tree;
 use std::alloc::Global;
 
@@ -28,7 +27,10 @@ fn base_of(alloc: Global, wanted: bool, disk: &mut MemoryDisk) -> Result<Tree, C
     if !wanted {
         return Ok(Tree::of_nodes(alloc, Vec::new(alloc)));
     }
-    let base = tree_of(alloc, disk, Version::One)?;
+    let Ok(version) = find_version(disk) else {
+        unreachable!();
+    };
+    let base = tree_of(alloc, disk, version)?;
     Ok(base)
 }
 

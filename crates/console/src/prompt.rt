@@ -279,13 +279,14 @@ pub fn prompt_on<D: Device, R: BufRead, W: Write>(
     typed: &mut R,
     out: &mut W,
 ) -> Result<(), ConsoleFault>
-    ensures { PromptsReader D.contents D.failures HELP.now mode (history_from base.now) session.old (R.remaining typed.old) result
+    ensures { PromptsReader D.contents D.failures HELP.now mode (history_from session.old.world.sizes.version base.now) session.old (R.remaining typed.old) result
         session.new (W.contents out.old) (W.contents out.new) }
 {
+    let version = session.version();
     let mut running = script_state(alloc, session, mode, base, Queues::new(alloc))?;
     let ended = prompt_all(alloc, session, &mut running, typed, out, HELP);
     let keeper = session.hand_back();
-    finish(alloc, out, mode, base, running, keeper, ended)
+    finish(alloc, out, mode, version, base, running, keeper, ended)
 }
 
 /// Mounts the image, or a fresh one, answers the lines that are typed, and hands out the disk. The lines are never queued, and the

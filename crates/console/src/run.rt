@@ -1,10 +1,9 @@
 //! Running a script.
 ghost use Rattle.std.specs.Prelude.{◌≡◌, ◌<◌, ◌^◌, IfOk, IfErr, IfSome, OnOk, Some};
-ghost use Rattle.console.specs.Vocabulary.{Appends, blocks_of, nothing_kept, version_of};
+ghost use Rattle.console.specs.Vocabulary.{Appends, IsWellFormed, blocks_of, nothing_kept};
 ghost use Rattle.console.specs.declared.fault.ConsoleFault.TheVariants.{Memory};
 ghost use Rattle.console.specs.Histories.{TellsHistory, history_from, history_kept, history_on};
-ghost use Rattle.console.specs.Images.{bytes_for, disk_for, fresh_bytes, taken_as, JudgesImage};
-ghost use Rattle.image_tree.specs.Damage as images;
+ghost use Rattle.console.specs.Images.{bytes_for, disk_for, fresh_bytes, JudgesImage};
 ghost use Rattle.console.specs.Lines.{course, script_course};
 ghost use Rattle.console.specs.Notes.{no_notes, run_in};
 ghost use Rattle.console.specs.Runs.{EndsSo, FailsUnread, PrintsAll, RunsCourse, RunsReader, RunsScript, TellsWanted, end_text};
@@ -72,8 +71,8 @@ pub fn run_script<R: Read + Drop, W: Write>(
 ) -> Result<MemoryDisk, ConsoleFault>
     ensures runs { RunsImage mode image (R.remaining script) result (W.contents out.old) (W.contents out.new) }
     // A refused image is refused for its first damage alone; all else is reported of a mounted one.
-    ensures mounted { IfOk result (λ disk. images.IsWellFormed (taken_as mode.check (disk_for image)) (disk_for image)) }
-    ensures refused { IfErr result (JudgesImage (taken_as mode.check (disk_for image)) (disk_for image)) }
+    ensures mounted { IfOk result (λ disk. IsWellFormed (disk_for image)) }
+    ensures refused { IfErr result (JudgesImage (disk_for image)) }
 {
     let disk = image_disk(alloc, image)?;
     if mode.check {
@@ -87,26 +86,16 @@ pub fn run_script<R: Read + Drop, W: Write>(
     Ok(disk)
 }
 
-// The version that a disk in memory says that it is of, and the disk, whose blocks stay.
-fn version_in(disk: MemoryDisk) -> (MemoryDisk, Version)
-    ensures blocks { blocks_of result.0 ≡ blocks_of disk }
-    ensures version { result.1 ≡ version_of (blocks_of disk) }
-{
-    let mut disk = disk;
-    match find_version(&mut disk) {
-        Ok(version) => (disk, version),
-        Err(_) => unreachable!(),
-    }
-}
-
 // Examines a disk as an image of the version that it says, and prints what it finds.
 fn check<W: Write>(alloc: Global, disk: MemoryDisk, out: &mut W) -> Result<MemoryDisk, ConsoleFault>
     ensures tells { Tells disk result (W.contents out.old) (W.contents out.new) }
-    ensures mounted { IfOk result (λ d. images.IsWellFormed (version_of (blocks_of disk)) (blocks_of disk)) }
-    ensures refused { IfErr result (JudgesImage (version_of (blocks_of disk)) (blocks_of disk)) }
+    ensures mounted { IfOk result (λ d. IsWellFormed (blocks_of disk)) }
+    ensures refused { IfErr result (JudgesImage (blocks_of disk)) }
 {
-    let (disk, version) = version_in(disk);
     let mut disk = disk;
+    let Ok(version) = find_version(&mut disk) else {
+        unreachable!();
+    };
     let shape = examine(alloc, &mut disk, version)?;
     write_shape(out, &shape).map_err(ConsoleFault::Write)?;
     Ok(disk)
@@ -124,7 +113,7 @@ pub fn run_on<D: Device, R: Read + Drop, W: Write>(
     script: R,
     out: &mut W,
 ) -> Result<(), ConsoleFault>
-    ensures { RunsReader D.contents D.failures mode (history_from base.now) session.old (R.remaining script) result session.new
+    ensures { RunsReader D.contents D.failures mode (history_from session.old.world.sizes.version base.now) session.old (R.remaining script) result session.new
         (W.contents out.old) (W.contents out.new) }
 {
     let text = read_script(alloc, script, LONGEST_SCRIPT)?;
@@ -173,7 +162,7 @@ fn run_text<D: Device, W: Write>(
     text: &[u8],
     out: &mut W,
 ) -> Result<(), ConsoleFault>
-    ensures { RunsScript D.contents D.failures mode (history_from base.now) session.old (script_course mode.schedule text.now) result
+    ensures { RunsScript D.contents D.failures mode (history_from session.old.world.sizes.version base.now) session.old (script_course mode.schedule text.now) result
         session.new (W.contents out.old) (W.contents out.new) }
 {
     let planned = course_in(alloc, mode.schedule, text)?;
@@ -189,14 +178,15 @@ fn run_course<D: Device, W: Write>(
     run: Course,
     out: &mut W,
 ) -> Result<(), ConsoleFault>
-    ensures { RunsCourse D.contents D.failures mode (history_from base.now) session.old (course run) result session.new
+    ensures { RunsCourse D.contents D.failures mode (history_from session.old.world.sizes.version base.now) session.old (course run) result session.new
         (W.contents out.old) (W.contents out.new) }
 {
     let Course { queues, lines } = run;
+    let version = session.version();
     let mut running = script_state(alloc, session, mode, base, queues)?;
     let ended = run_lines(alloc, session, &mut running, out, lines);
     let keeper = session.hand_back();
-    finish(alloc, out, mode, base, running, keeper, ended)
+    finish(alloc, out, mode, version, base, running, keeper, ended)
 }
 
 /// The state of a script that has to start these calls, with nothing noted. Beside the file system this tree is kept
@@ -209,34 +199,36 @@ pub fn script_state<D: Device>(
     queues: Queues,
 ) -> Result<ScriptState, ConsoleFault>
     ensures state { IfOk result (λ running. (running.queues ≡ queues) × (running.notes ≡ no_notes mode)) }
-    ensures keeps { IfOk result (λ _. session.new ≡ with_beside (Some (nothing_kept base.now)) session.old) }
+    ensures keeps { IfOk result (λ _. session.new ≡ with_beside (Some (nothing_kept session.old.world.sizes.version base.now)) session.old) }
     ensures memory { IfErr result (λ fault. (fault ≡ Memory) × (session.new ≡ session.old)) }
 {
     let notes = Notes::new(alloc, mode)?;
-    let Ok(keeper) = Keeper::new(alloc, base) else {
+    let Ok(keeper) = Keeper::new(alloc, session.version(), base) else {
         return Err(ConsoleFault::Memory);
     };
     session.keep(keeper);
     Ok(ScriptState { queues, notes })
 }
 
-/// Prints what comes after all answers, if the lines reached their end or a call was stopped.
+/// Prints what comes after all answers, if the lines reached their end or a call was stopped. The version is that of
+/// the image that they ran on.
 pub fn finish<W: Write>(
     alloc: Global,
     out: &mut W,
     mode: Mode,
+    version: Version,
     base: &Tree,
     running: ScriptState,
     keeper: Option<Keeper>,
     ended: Result<(), ConsoleFault>,
 ) -> Result<(), ConsoleFault>
-    ensures { EndsSo mode (history_kept base.now (beside_in keeper)) running.notes ended (W.contents out.old) result
+    ensures { EndsSo mode (history_kept version base.now (beside_in keeper)) running.notes ended (W.contents out.old) result
         (W.contents out.new) }
 {
     match ended {
-        Ok(()) => write_rest(alloc, out, mode, base, running, keeper),
+        Ok(()) => write_rest(alloc, out, mode, version, base, running, keeper),
         Err(ConsoleFault::Stopped(stop)) => {
-            write_rest(alloc, out, mode, base, running, keeper)?;
+            write_rest(alloc, out, mode, version, base, running, keeper)?;
             Err(ConsoleFault::Stopped(stop))
         }
         Err(fault) => Err(fault),
@@ -247,18 +239,19 @@ fn write_rest<W: Write>(
     alloc: Global,
     out: &mut W,
     mode: Mode,
+    version: Version,
     base: &Tree,
     running: ScriptState,
     keeper: Option<Keeper>,
 ) -> Result<(), ConsoleFault>
-    ensures { PrintsAll mode (history_kept base.now (beside_in keeper)) running.notes (W.contents out.old) result (W.contents out.new) }
+    ensures { PrintsAll mode (history_kept version base.now (beside_in keeper)) running.notes (W.contents out.old) result (W.contents out.new) }
 {
     let ScriptState {
         queues: _queues,
         notes,
     } = running;
     write_end(out, mode, &notes).map_err(ConsoleFault::Write)?;
-    write_wanted(alloc, out, mode, base, &notes, keeper)
+    write_wanted(alloc, out, mode, version, base, &notes, keeper)
 }
 
 // The history of the run, if it is wanted.
@@ -266,14 +259,15 @@ fn write_wanted<W: Write>(
     alloc: Global,
     out: &mut W,
     mode: Mode,
+    version: Version,
     base: &Tree,
     notes: &Notes,
     keeper: Option<Keeper>,
 ) -> Result<(), ConsoleFault>
-    ensures { TellsWanted mode (history_kept base.now (beside_in keeper)) notes.now (W.contents out.old) result (W.contents out.new) }
+    ensures { TellsWanted mode (history_kept version base.now (beside_in keeper)) notes.now (W.contents out.old) result (W.contents out.new) }
 {
     if mode.explain {
-        write_kept(alloc, out, base, notes, keeper)
+        write_kept(alloc, out, version, base, notes, keeper)
     } else {
         Ok(())
     }
@@ -283,15 +277,16 @@ fn write_wanted<W: Write>(
 fn write_kept<W: Write>(
     alloc: Global,
     out: &mut W,
+    version: Version,
     base: &Tree,
     notes: &Notes,
     keeper: Option<Keeper>,
 ) -> Result<(), ConsoleFault>
-    ensures { TellsHistory (history_kept base.now (beside_in keeper)) (run_in notes.now.kept) result (W.contents out.old)
+    ensures { TellsHistory (history_kept version base.now (beside_in keeper)) (run_in notes.now.kept) result (W.contents out.old)
         (W.contents out.new) }
 {
     match keeper {
-        Some(keeper) => write_history(alloc, out, base, notes, keeper),
+        Some(keeper) => write_history(alloc, out, version, base, notes, keeper),
         None => Err(ConsoleFault::Memory),
     }
 }

@@ -1,7 +1,7 @@
 //! A mounted file system that scripts are run on.
 ghost use Rattle.std.specs.Prelude.{◌≡◌, IfOk, IfErr, IfSome, None, replicate, set};
 ghost use Rattle.fs_layout.specs.Recovered.{sizes_of};
-ghost use Rattle.image_tree.specs.VersionOne.{IsWellFormed};
+ghost use Rattle.image_tree.specs.Images.{IsWellFormed};
 ghost use Rattle.hart_core.specs.Mounting.{HandsBack, Rests};
 ghost use Rattle.hart_core.specs.Harts.{AreHarts, shared_of};
 ghost use Rattle.hart_core.specs.Telling.{heard_by, heard_in};
@@ -15,6 +15,7 @@ use explain::Keeper;
 use group_log::Phase;
 use hart_core::{Came, Event, Outcome, World};
 use image_tree::MountFault;
+use image_versions::Version;
 use path_walk::Heard;
 use std::alloc::Global;
 use std::marker::Model;
@@ -147,6 +148,13 @@ impl<D: Device> Session<D> {
         } else {
             None
         }
+    }
+
+    /// The version of the image that it is mounted on.
+    pub(crate) fn version(&self) -> Version
+        ensures { result ≡ self.now.world.sizes.version }
+    {
+        self.world.version()
     }
 
     /// How far the log's commit is.

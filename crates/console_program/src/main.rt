@@ -11,15 +11,12 @@
 //! where the damage is.
 #![tactic(auto)]
 
-use block_device::MemoryDisk;
 use clap::ArgMatches;
 use clap::error::ErrorKind;
 use clap::parser::ValueSource;
 use console::{ConsoleFault, run_prompt, run_script, status};
 use console_threads::{ThreadsFault, run_threads};
-use damage_places::{Place, find_place};
-use image_tree::find_version;
-use image_versions::Version;
+use damage_places::{Place, find_place_in};
 use mkfs::{ImageRefused, SaveRefused, WordsRefused, read_image, read_words, save, try_to_save};
 use script::{
     EXPLAIN, IMAGE, LAST, Mode, PROMPT, SAVE, SCHEDULE, Schedule, THREADS, TIMELINE, has_prompt,
@@ -192,31 +189,14 @@ fn copy_of(alloc: Global, image: Option<&Vec<u8>>) -> Option<Vec<u8>> {
     Vec::from_slice(alloc, image?.as_slice()).ok()
 }
 
-// The first place of damage of an image with these bytes, which is examined as of the version that it says, or mounted as of version 1;
-// none if memory was refused.
-fn place_in(alloc: Global, image: Vec<u8>, is_examined: bool) -> Option<Place> {
-    let mut disk = MemoryDisk::new(image);
-    let version = if is_examined {
-        find_version(&mut disk).ok()?
-    } else {
-        Version::One
-    };
-    find_place(alloc, &mut disk, version).ok()?
-}
-
 // The fault, with the place at which the image is damaged, if that is why it isn't taken.
-fn with_place<'a>(
-    alloc: Global,
-    fault: Fault<'a>,
-    image: Option<Vec<u8>>,
-    is_examined: bool,
-) -> Fault<'a> {
+fn with_place<'a>(alloc: Global, fault: Fault<'a>, image: Option<Vec<u8>>) -> Fault<'a> {
     match (fault, image) {
         (Fault::Run(ConsoleFault::Image(refused)), Some(image)) => {
             let fault = ConsoleFault::Image(refused);
-            match place_in(alloc, image, is_examined) {
-                Some(place) => Fault::Damaged(fault, place),
-                None => Fault::Run(fault),
+            match find_place_in(alloc, image) {
+                Ok(Some(place)) => Fault::Damaged(fault, place),
+                _ => Fault::Run(fault),
             }
         }
         (fault, _) => fault,
@@ -257,9 +237,7 @@ fn run<'a, R: Threads + Wait + Sync>(
     out.flush().map_err(|error| Fault::of_answers(error))?;
     let disk = match ran {
         Ok(disk) => disk,
-        Err(fault) => {
-            return Err(with_place(rt.alloc(), Fault::from(fault), copy, mode.check));
-        }
+        Err(fault) => return Err(with_place(rt.alloc(), Fault::from(fault), copy)),
     };
     if let Some(path) = place {
         let bytes = disk.into_bytes();

@@ -1,6 +1,6 @@
 -- Why a script's threads don't reach their end, and the exit status of a program that says so.
 use Rattle.std.specs.Prelude.{ℕ, List}
-use Rattle.console_threads.specs.Vocabulary.{IsWellFormed, MountFault, One, JudgesImage}
+use Rattle.console_threads.specs.Vocabulary.{IsWellFormed, MountFault, JudgesImage}
 use Rattle.image_tree.specs.declared.fault.MountFault.TheVariants as mounts
 use Rattle.console.specs.declared.fault.ConsoleFault.TheVariants as faults
 use Rattle.console.specs.Faults as console
@@ -22,7 +22,7 @@ status_of Strange = 3
 -- A refused image is refused for its first damage; all else is reported of a mounted image, but a disk that fails at
 -- once.
 abbrev pub JudgesRun : List (List ℕ) → ThreadsFault → Type 0
-JudgesRun disk (Console fault) = JudgesImage One disk fault
+JudgesRun disk (Console fault) = JudgesImage disk fault
 JudgesRun disk Device = Unit {0}
 JudgesRun disk Strange = IsWellFormed disk
 

@@ -8,7 +8,6 @@ pub use Rattle.console.specs.Sessions.{hart_in}
 pub use Rattle.console.specs.declared.fault.ConsoleFault.{ConsoleFault}
 pub use Rattle.console.specs.Histories.{history_on}
 pub use Rattle.console.specs.Images.{JudgesImage, bytes_for, disk_for}
-pub use Rattle.console.specs.Vocabulary.{One}
 pub use Rattle.console.specs.Runs.{PrintsAll}
 pub use Rattle.console.specs.Told.{refused_text}
 pub use Rattle.console.specs.Verbs.{verb_of, word_of}

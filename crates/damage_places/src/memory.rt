@@ -2,7 +2,7 @@
 ghost use Rattle.std.specs.Prelude.{IfOk};
 ghost use Rattle.std.specs.Option.{MatchOption};
 ghost use Rattle.block_device.specs.Blocks.{blocks_of};
-ghost use Rattle.image_tree.specs.Versions.{version_of};
+ghost use Rattle.fs_layout.specs.Recovered.{version_in};
 ghost use Rattle.damage_places.specs.Vocabulary.{IsWellFormed};
 ghost use Rattle.damage_places.specs.Places.{IsFirstPlace};
 
@@ -17,8 +17,8 @@ use std::alloc::Global;
 /// well formed.
 pub fn find_place_in(alloc: Global, image: Vec<u8>) -> Result<Option<Place>, SearchFault>
     ensures { IfOk result (λ found. MatchOption found
-        (IsWellFormed (version_of (blocks_of image.items)) (blocks_of image.items))
-        (IsFirstPlace (version_of (blocks_of image.items)) (blocks_of image.items))) }
+        (IsWellFormed (version_in (blocks_of image.items)) (blocks_of image.items))
+        (IsFirstPlace (version_in (blocks_of image.items)) (blocks_of image.items))) }
 {
     let mut disk = MemoryDisk::new(image);
     let version = find_version(&mut disk)?;

@@ -1,5 +1,5 @@
 -- What is found in the blocks of a directory, one after the other.
-use Rattle.directory.proofs.Vocabulary.{◌≡◌, ℕ, ◌+◌, ◌-◌, ◌*◌, ◌/◌, ◌%◌, ◌<◌, ◌≤◌, nat_le, ◌&&◌, Bool, true, false, List, Option, Some, None, refl, sym, ap, ◌∙◌, arith, ⊎_elim, cases_lt, le-leb, lt-leb, option_map, Dinode, Dirent, dirent_at, first_below, FirstIs, first_is, Found, is_used, first_named, first_free, first_used, Aim, Named, Unused, Entry, slot_count, slots_in, first_in, found_at, found_in, slot_at, is_sought, number_of, IsFirst, dirents_per_block}
+use Rattle.directory.proofs.Vocabulary.{◌≡◌, ℕ, ◌+◌, ◌-◌, ◌*◌, ◌/◌, ◌%◌, ◌<◌, ◌≤◌, nat_le, ◌&&◌, Bool, true, false, List, Option, Some, None, refl, sym, ap, ◌∙◌, arith, ⊎_elim, cases_lt, le-leb, lt-leb, option_map, Dinode, Dirent, dirent_at, first_below, FirstIs, first_is, Found, is_used, first_named, first_free, first_used, Aim, Named, Unused, Entry, slot_count, slots_in, first_in, found_at, found_in, slot_at, is_sought, number_of, IsFirst, dirents_per_block_of, Version, in_block}
 use Rattle.directory.proofs.EntryNumbers.{sought-number}
 
 -- ---- the slots of a block
@@ -8,25 +8,25 @@ first-same : (p q : ℕ → Bool) (n : ℕ) (o : Option ℕ) → ((k : ℕ) → 
 first-same p q n None same f = λ k h. sym (same k) ∙ f k h
 first-same p q n (Some b) same f = (f.0, sym (same b) ∙ f.1, λ k h. sym (same k) ∙ f.2 k h)
 
-past_two : (k p : ℕ) → nat_le (2 - dirents_per_block * k) p ≡ nat_le 2 (dirents_per_block * k + p)
-past_two k p =
+past_two : (v : Version) (k p : ℕ) → nat_le (2 - dirents_per_block_of v * k) p ≡ nat_le 2 (dirents_per_block_of v * k + p)
+past_two v k p =
     ⊎_elim
-    (λ (low : p < 2 - dirents_per_block * k). lt-leb (2 - dirents_per_block * k) p low
-    ∙ sym (lt-leb 2 (dirents_per_block * k + p) (omega arith)))
-    (λ (high : 2 - dirents_per_block * k ≤ p). le-leb (2 - dirents_per_block * k) p high
-    ∙ sym (le-leb 2 (dirents_per_block * k + p) (omega arith)))
-    (cases_lt p (2 - dirents_per_block * k))
+    (λ (low : p < 2 - dirents_per_block_of v * k). lt-leb (2 - dirents_per_block_of v * k) p low
+    ∙ sym (lt-leb 2 (dirents_per_block_of v * k + p) (omega arith)))
+    (λ (high : 2 - dirents_per_block_of v * k ≤ p). le-leb (2 - dirents_per_block_of v * k) p high
+    ∙ sym (le-leb 2 (dirents_per_block_of v * k + p) (omega arith)))
+    (cases_lt p (2 - dirents_per_block_of v * k))
 
 -- the first slot of block k that is sought
-first-in : (aim : Aim) (k limit : ℕ) (block : List ℕ) → FirstIs (λ p. is_sought aim (dirents_per_block * k + p) (dirent_at p block)) limit (first_in aim k limit block)
+first-in : (v : Version) (aim : Aim) (k limit : ℕ) (block : List ℕ) → FirstIs (λ p. is_sought aim (dirents_per_block_of v * k + p) (dirent_at v p block)) limit (first_in v aim k limit block)
 unfolding first_named first_free first_used
-first-in (Named name) k limit block = first_is (λ p. is_sought (Named name) (dirents_per_block * k + p) (dirent_at p block)) limit
-first-in Unused k limit block = first_is (λ p. is_sought Unused (dirents_per_block * k + p) (dirent_at p block)) limit
-first-in Entry k limit block =
-    first-same (λ p. nat_le (2 - dirents_per_block * k) p && is_used (dirent_at p block))
-    (λ p. is_sought Entry (dirents_per_block * k + p) (dirent_at p block)) limit
-    (first_below (λ p. nat_le (2 - dirents_per_block * k) p && is_used (dirent_at p block)) limit) (λ p. ap (λ b. b && is_used (dirent_at p block)) (past_two k p))
-    (first_is (λ p. nat_le (2 - dirents_per_block * k) p && is_used (dirent_at p block)) limit)
+first-in v (Named name) k limit block = first_is (λ p. is_sought (Named name) (dirents_per_block_of v * k + p) (dirent_at v p block)) limit
+first-in v Unused k limit block = first_is (λ p. is_sought Unused (dirents_per_block_of v * k + p) (dirent_at v p block)) limit
+first-in v Entry k limit block =
+    first-same (λ p. nat_le (2 - dirents_per_block_of v * k) p && is_used (dirent_at v p block))
+    (λ p. is_sought Entry (dirents_per_block_of v * k + p) (dirent_at v p block)) limit
+    (first_below (λ p. nat_le (2 - dirents_per_block_of v * k) p && is_used (dirent_at v p block)) limit) (λ p. ap (λ b. b && is_used (dirent_at v p block)) (past_two v k p))
+    (first_is (λ p. nat_le (2 - dirents_per_block_of v * k) p && is_used (dirent_at v p block)) limit)
 
 -- ---- the slots of a directory
 
@@ -68,37 +68,40 @@ module _ (aim : Aim) (slots : ℕ → Option Dirent) where
 
 -- ---- a block of a directory
 
-module _ (content : ℕ → List ℕ) (slots : ℕ → Option Dirent) (count : ℕ) (shown : (s : ℕ) → s < count → slot_at content s ≡ slots s) where
-  pub slot-is : (k p : ℕ) → p < dirents_per_block → dirents_per_block * k + p < count
-      → slots (dirents_per_block * k + p) ≡ dirent_at p (content k)
+module _ (v : Version) (content : ℕ → List ℕ) (slots : ℕ → Option Dirent) (count : ℕ) (shown : (s : ℕ) → s < count → slot_at v content s ≡ slots s) where
+  pub slot-is : (k p : ℕ) → p < dirents_per_block_of v → dirents_per_block_of v * k + p < count
+      → slots (dirents_per_block_of v * k + p) ≡ dirent_at v p (content k)
   slot-is k p h few =
-      let q : (dirents_per_block * k + p) / dirents_per_block ≡ k = omega arith in
-      let r : (dirents_per_block * k + p) % dirents_per_block ≡ p = omega arith in
-      let e : slot_at content (dirents_per_block * k + p) ≡ dirent_at p (content k) = rw (q, r) refl in
-      sym (shown (dirents_per_block * k + p) few) ∙ e
+      let here = in_block v k p h in
+      let e : slot_at v content (dirents_per_block_of v * k + p) ≡ dirent_at v p (content k) = rw (here.0, here.1) refl in
+      sym (shown (dirents_per_block_of v * k + p) few) ∙ e
 
-  module _ (aim : Aim) (k limit : ℕ) (few : limit ≤ dirents_per_block) (within : (p : ℕ) → p < limit
-      → dirents_per_block * k + p < count) where
-    tested : (s : ℕ) → dirents_per_block * k ≤ s → s < dirents_per_block * k + limit → is_at aim slots s ≡ is_sought aim (dirents_per_block * k + (s - dirents_per_block * k)) (dirent_at (s - dirents_per_block * k) (content k))
+  module _ (aim : Aim) (k limit : ℕ) (few : limit ≤ dirents_per_block_of v) (within : (p : ℕ) → p < limit
+      → dirents_per_block_of v * k + p < count) where
+    -- the first slot of the block
+    abbrev low : ℕ
+    low = dirents_per_block_of v * k
+
+    tested : (s : ℕ) → low ≤ s → s < low + limit → is_at aim slots s ≡ is_sought aim (low + (s - low)) (dirent_at v (s - low) (content k))
     tested s l h =
-        let e : s ≡ dirents_per_block * k + (s - dirents_per_block * k) = omega arith in
-        ap (is_at aim slots) e ∙ ap (is_sought aim (dirents_per_block * k + (s - dirents_per_block * k))) (slot-is k (s - dirents_per_block * k) (omega arith) (within (s - dirents_per_block * k) (omega arith)))
+        let e : s ≡ low + (s - low) = omega arith in
+        ap (is_at aim slots) e ∙ ap (is_sought aim (low + (s - low))) (slot-is k (s - low) (omega arith) (within (s - low) (omega arith)))
 
-    block-finds : (o : Option ℕ) → FirstIs (λ p. is_sought aim (dirents_per_block * k + p) (dirent_at p (content k))) limit o
-        → IsBetween aim slots (dirents_per_block * k) (dirents_per_block * k + limit) (option_map (found_at k (content k)) o)
-    block-finds None f = λ s l h. tested s l h ∙ f (s - dirents_per_block * k) (omega arith)
+    block-finds : (o : Option ℕ) → FirstIs (λ p. is_sought aim (low + p) (dirent_at v p (content k))) limit o
+        → IsBetween aim slots low (low + limit) (option_map (found_at v k (content k)) o)
+    block-finds None f = λ s l h. tested s l h ∙ f (s - low) (omega arith)
     block-finds (Some p) f =
-        let there : slots (dirents_per_block * k + p) ≡ dirent_at p (content k) = slot-is k p (omega (arith, f.0)) (within p f.0) in (
+        let there : slots (low + p) ≡ dirent_at v p (content k) = slot-is k p (omega (arith, f.0)) (within p f.0) in (
           omega arith,
           omega (arith, f.0),
-          ap (is_sought aim (dirents_per_block * k + p)) there ∙ f.1,
-          sought-number (content k) p aim (dirents_per_block * k + p) f.1 ∙ ap number_of (sym there),
-          λ s l h. tested s l (omega (arith, f.0)) ∙ f.2 (s - dirents_per_block * k) (omega arith),
+          ap (is_sought aim (low + p)) there ∙ f.1,
+          sought-number v (content k) p aim (low + p) f.1 ∙ ap number_of (sym there),
+          λ s l h. tested s l (omega (arith, f.0)) ∙ f.2 (s - low) (omega arith),
         )
 
 -- what block k has
-pub found_in_block : (content : ℕ → List ℕ) (slots : ℕ → Option Dirent) (d : Dinode) → ((s : ℕ) → s < slot_count d → slot_at content s ≡ slots s) → (aim : Aim) (k : ℕ)
-    → IsBetween aim slots (dirents_per_block * k) (dirents_per_block * k + slots_in d k) (found_in aim d k (content k))
+pub found_in_block : (v : Version) (content : ℕ → List ℕ) (slots : ℕ → Option Dirent) (d : Dinode) → ((s : ℕ) → s < slot_count v d → slot_at v content s ≡ slots s) → (aim : Aim) (k : ℕ)
+    → IsBetween aim slots (dirents_per_block_of v * k) (dirents_per_block_of v * k + slots_in v d k) (found_in v aim d k (content k))
 unfolding found_in
-found_in_block content slots d shown aim k =
-    block-finds content slots (slot_count d) shown aim k (slots_in d k) (omega arith) (λ p h. omega arith) (first_in aim k (slots_in d k) (content k)) (first-in aim k (slots_in d k) (content k))
+found_in_block v content slots d shown aim k =
+    block-finds v content slots (slot_count v d) shown aim k (slots_in v d k) (omega arith) (λ p h. omega arith) (first_in v aim k (slots_in v d k) (content k)) (first-in v aim k (slots_in v d k) (content k))

@@ -12,6 +12,7 @@ pub mod Named
 pub mod SearchSteps
 pub mod Searches
 pub mod OneSlot
+pub mod Padded
 pub mod Puts
 pub mod Raised
 pub mod Seats

@@ -1,7 +1,8 @@
 -- A slot compared in its block is compared by what it is.
-use Rattle.directory.proofs.Vocabulary.{One, ◌≡◌, ◌≢◌, ℕ, ◌+◌, ◌-◌, ◌*◌, ◌<◌, ◌≤◌, true, false, not, eqb, ◌==◌, ◌&&◌, List, ◌++◌, length, drop, replicate, Option, Some, None, refl, sym, ap, ◌∙◌, subst, arith, take_all, ⊎_elim, length-append, length-drop, and_parts, cases_lt, eq-eqb, eqb-true, ne_eqb, eqb-false, not-true, same_from_decides, bytes_eq-Decides, drop_at, length-replicate, get_or_append_left, get_or-append_right, Dirent, Free, Used, u16_bytes, u16_at, record_at, IsBytes, list_all, is_zero, IsName, spell_dirent, dirent_of, used_of, free_of, dirent_at, which_branch, dirent_of-spell, spell-dirent_of, number-part, name_parts, u16_at-lt, u16_bytes-at, length-u16_bytes, is_named, field_of, has_words, u64_at, block_len, dirent_len, dirents_per_block, name_len}
-use Rattle.directory.proofs.OneSlot.{IsSlot, slot_in, field_fits, zeros_at}
-use Rattle.directory.proofs.Words.{same_row, u64_at-part, u64_at-drop}
+use Rattle.directory.proofs.Vocabulary.{◌≡◌, ◌≢◌, ℕ, ◌+◌, ◌-◌, ◌*◌, ◌/◌, ◌<◌, ◌≤◌, true, false, eqb, ◌&&◌, List, ◌++◌, length, drop, get_or, slice_index, replicate, Option, Some, None, refl, sym, ap, ◌∙◌, arith, ⊎_elim, length-append, length-drop, cases_Bool, eqb-false, bytes_eq-Decides, drop_at, get_or-drop, same_number_lists, length-replicate, Version, Dirent, Free, Used, u16_bytes, u16_at, record_at, IsBytes, list_all, is_zero, IsName, spell_dirent, dirent_of, used_of, free_of, dirent_at, which_branch, dirent_of-spell, spell-dirent_of, number-part, name_parts, u16_at-lt, u16_bytes-at, length-u16_bytes, is_named, u64_at, AreWords, word_place, are_words, in_range, dirent_len_of, name_len_of}
+use Rattle.directory.proofs.OneSlot.{IsSlot, slot_in, rest_fits}
+use Rattle.directory.proofs.Padded.{padded_at, u64_padded}
+use Rattle.directory.proofs.Words.{same_bytes, u64_at-part, u64_at-drop}
 
 pub free_not_used : (field : List ℕ) (n : ℕ) (name : List ℕ) → free_of field ≡ Some (Used n name) → ⊥
 free_not_used field n name e =
@@ -11,104 +12,110 @@ free_not_used field n name e =
     (which_branch (list_all is_zero field) (Some Free) None (Some (Used n name)) e)
 
 -- a used slot has a number
-pub used_number : (bytes : List ℕ) (n : ℕ) (name : List ℕ) → dirent_of bytes ≡ Some (Used n name) → u16_at bytes 0 ≢ 0
-used_number bytes n name e z =
+pub used_number : (v : Version) (bytes : List ℕ) (n : ℕ) (name : List ℕ) → dirent_of v bytes ≡ Some (Used n name) → u16_at bytes 0 ≢ 0
+used_number v bytes n name e z =
     ⊎_elim
     (λ (t : (eqb (u16_at bytes 0) 0 ≡ true) × (free_of (drop 2 bytes) ≡ Some (Used n name))). free_not_used (drop 2 bytes) n name t.1)
-    (λ (f : (eqb (u16_at bytes 0) 0 ≡ false) × (used_of (u16_at bytes 0) (drop 2 bytes) ≡ Some (Used n name))). eqb-false (u16_at bytes 0) 0 f.0 z)
-    (which_branch (eqb (u16_at bytes 0) 0) (free_of (drop 2 bytes)) (used_of (u16_at bytes 0) (drop 2 bytes)) (Some (Used n name)) e)
+    (λ (f : (eqb (u16_at bytes 0) 0 ≡ false) × (used_of v (u16_at bytes 0) (drop 2 bytes) ≡ Some (Used n name))). eqb-false (u16_at bytes 0) 0 f.0 z)
+    (which_branch (eqb (u16_at bytes 0) 0) (free_of (drop 2 bytes)) (used_of v (u16_at bytes 0) (drop 2 bytes)) (Some (Used n name)) e)
 
--- a name's field
-length-field : (name : List ℕ) → length name ≤ name_len → length (field_of name) ≡ name_len
-unfolding field_of
-length-field name h = simp (length-append, length-replicate) (omega arith)
+-- ---- the field of a name
 
--- if the number isn't 0 and the name's field follows it, the slot is used by that name
-named_there : (bytes name : List ℕ) → IsSlot bytes → IsName name → u16_at bytes 0 ≢ 0 → drop 2 bytes ≡ field_of name → dirent_of bytes ≡ Some (Used (u16_at bytes 0) name)
-unfolding field_of
-named_there bytes name s is some field =
-    let spelled : spell_dirent (Used (u16_at bytes 0) name) ≡ bytes =
-    ap (λ (xs : List ℕ). u16_bytes (u16_at bytes 0) ++ xs) (sym field) ∙ u16_bytes-at bytes 0 (omega (arith, s.long)) s.fits in
-    ap dirent_of (sym spelled) ∙ dirent_of-spell One (Used (u16_at bytes 0) name) (some, u16_at-lt bytes 0 s.fits, is)
+module _ (v : Version) (bytes name : List ℕ) (s : IsSlot v bytes) where
+  -- the name, and zeros up to the field's end
+  abbrev field : List ℕ
+  field = name ++ replicate (name_len_of v - length name) 0
 
--- and if it is used by that name, the field is there
-field_there : (bytes name : List ℕ) (n : ℕ) → IsSlot bytes → dirent_of bytes ≡ Some (Used n name) → drop 2 bytes ≡ field_of name
-unfolding field_of
-field_there bytes name n s e =
-    ap (drop 2) (sym (spell-dirent_of One bytes (Used n name) s.long s.fits e)) ∙ drop_at (u16_bytes n) (name ++ replicate (name_len - length name) 0) 2 (length-u16_bytes n)
+  -- if the number isn't 0 and the name's field follows it, the slot is used by that name
+  named_there : IsName v name → u16_at bytes 0 ≢ 0 → drop 2 bytes ≡ field → dirent_of v bytes ≡ Some (Used (u16_at bytes 0) name)
+  named_there is some there =
+      let long : 0 + 2 ≤ length bytes = omega (arith, s.long) in
+      let spelled : spell_dirent v (Used (u16_at bytes 0) name) ≡ bytes =
+      ap (λ (xs : List ℕ). u16_bytes (u16_at bytes 0) ++ xs) (sym there) ∙ u16_bytes-at bytes 0 long s.fits in
+      ap (dirent_of v) (sym spelled) ∙ dirent_of-spell v (Used (u16_at bytes 0) name) (some, u16_at-lt bytes 0 s.fits, is)
 
--- what the words of a slot are
-same_words : (block name : List ℕ) (p : ℕ) → drop 2 (record_at dirent_len p block) ≡ field_of name
-    → (u64_at block (dirent_len * p + 2) ≡ u64_at (field_of name) 0) × (u64_at block (dirent_len * p + 8) ≡ u64_at (field_of name) 6)
-same_words block name p e = (
-  sym (u64_at-part block (dirent_len * p) dirent_len 2 (omega arith)) ∙ sym (u64_at-drop (record_at dirent_len p block) 2 0)
-      ∙ ap (λ (xs : List ℕ). u64_at xs 0) e,
-  sym (u64_at-part block (dirent_len * p) dirent_len 8 (omega arith)) ∙ sym (u64_at-drop (record_at dirent_len p block) 2 6)
-      ∙ ap (λ (xs : List ℕ). u64_at xs 6) e,
-)
+  -- and if it is used by that name, the field is there
+  field_there : (n : ℕ) → dirent_of v bytes ≡ Some (Used n name) → drop 2 bytes ≡ field
+  field_there n e = ap (drop 2) (sym (spell-dirent_of v bytes (Used n name) s.long s.fits e)) ∙ drop_at (u16_bytes n) field 2 (length-u16_bytes n)
 
-same_as_name : (block name : List ℕ) (p : ℕ) → IsSlot (record_at dirent_len p block) → IsBytes (field_of name) → length name ≤ name_len
-    → u64_at block (dirent_len * p + 2) ≡ u64_at (field_of name) 0 → u64_at block (dirent_len * p + 8) ≡ u64_at (field_of name) 6
-    → drop 2 (record_at dirent_len p block) ≡ field_of name
-same_as_name block name p s fits h front back =
-    let slot : List ℕ = record_at dirent_len p block in
-    same_row 6 (drop 2 slot) (field_of name) (omega arith) (omega (arith, length-drop 2 slot, s.long)) (length-field name h) (field_fits slot s) fits
-    (u64_at-drop slot 2 0 ∙ u64_at-part block (dirent_len * p) dirent_len 2 (omega arith) ∙ front)
-    (u64_at-drop slot 2 6 ∙ u64_at-part block (dirent_len * p) dirent_len 8 (omega arith) ∙ back)
+  -- ---- word by word
 
-field_of-fits : (name : List ℕ) → IsBytes name → IsBytes (field_of name)
-unfolding field_of
-field_of-fits name fits i =
-    ⊎_elim
-    (λ (low : i < length name). omega (arith, get_or_append_left name (replicate (name_len - length name) 0) 0 i low, fits i))
-    (λ (high : length name ≤ i).
-    omega (arith, get_or-append_right name (replicate (name_len - length name) 0) (length name) i 0 refl high, zeros_at (name_len - length name) (i - length name)))
-    (cases_lt i (length name))
+  -- the words of a slot with that name are there
+  abbrev HasWords : Type 0
+  HasWords = (i : ℕ) → i < dirent_len_of v / 8 → u64_at bytes (word_place i) ≡ u64_at name (word_place i - 2)
 
-module _ (block name : List ℕ) (p : ℕ) (s : IsSlot (record_at dirent_len p block)) (name_fits : IsBytes name) (is : IsName name) where
-  short : length name ≤ name_len
-  short = (name_parts One name is).high
+  field_words : drop 2 bytes ≡ field → HasWords
+  field_words there i h =
+      let at : 2 + (word_place i - 2) ≡ word_place i = omega arith in
+      ap (u64_at bytes) (sym at) ∙ sym (u64_at-drop bytes 2 (word_place i - 2)) ∙ ap (λ (xs : List ℕ). u64_at xs (word_place i - 2)) there
+      ∙ u64_padded name (name_len_of v - length name) (word_place i - 2)
 
-  by_words : has_words (u64_at (field_of name) 0) (u64_at (field_of name) 6) p block ≡ true → is_named name (dirent_at p block) ≡ true
-  unfolding has_words
-  by_words h =
-      let slot : List ℕ = record_at dirent_len p block in
-      let both = and_parts (not (u16_at block (dirent_len * p) == 0) && (u64_at block (dirent_len * p + 2) == u64_at (field_of name) 0)) (u64_at block (dirent_len * p + 8) == u64_at (field_of name) 6) h in
-      let front = and_parts (not (u16_at block (dirent_len * p) == 0))
-      (u64_at block (dirent_len * p + 2) == u64_at (field_of name) 0) both.0 in
-      let some : u16_at slot 0 ≢ 0 = λ z. eqb-false (u16_at block (dirent_len * p)) 0 (not-true (u16_at block (dirent_len * p) == 0) front.0) (sym (number-part One block p) ∙ z) in
-      let field = same_as_name block name p s (field_of-fits name name_fits) short
-      (eqb-true (u64_at block (dirent_len * p + 2)) (u64_at (field_of name) 0) front.1) (eqb-true (u64_at block (dirent_len * p + 8)) (u64_at (field_of name) 6) both.1) in
-      ap (is_named name) (named_there slot name s is some field) ∙ (bytes_eq-Decides name name).1 refl
+  -- byte k of the field is one of word i
+  byte_there : (k i : ℕ) → k < name_len_of v → i ≡ (k + 2) / 8 → IsBytes name → HasWords → get_or (drop 2 bytes) k 0 ≡ get_or field k 0
+  unfolding u64_at
+  byte_there k i h e fits words =
+      let from : ℕ = word_place i in
+      let j : ℕ = k + 2 - from in
+      let there : from + j ≡ 2 + k = omega arith in
+      let named : from - 2 + j ≡ k = omega arith in
+      let word = words i (omega (arith, are_words v)) in
+      let same =
+      same_bytes 8 0 (drop from bytes) (drop (from - 2) name) (rest_fits from bytes s.fits) (rest_fits (from - 2) name fits) word j (omega arith) (omega arith) in
+      get_or-drop 2 bytes k 0 ∙ ap (λ (n : ℕ). get_or bytes n 0) (sym there) ∙ sym (get_or-drop from bytes j 0) ∙ same ∙ get_or-drop (from - 2) name j 0
+      ∙ ap (λ (n : ℕ). get_or name n 0) named ∙ sym (padded_at name (name_len_of v - length name) k)
 
-  words_there : (n : ℕ) → dirent_at p block ≡ Some (Used n name) → has_words (u64_at (field_of name) 0) (u64_at (field_of name) 6) p block ≡ true
-  unfolding has_words
-  words_there n e =
-      let slot : List ℕ = record_at dirent_len p block in
-      let words = same_words block name p (field_there slot name n s e) in
-      let some : u16_at block (dirent_len * p) ≢ 0 = λ z. used_number slot n name e (number-part One block p ∙ z) in
-      rw (words.0, words.1, ne_eqb (u16_at block (dirent_len * p)) 0 some, eq-eqb (u64_at (field_of name) 0) (u64_at (field_of name) 0) refl, eq-eqb (u64_at (field_of name) 6) (u64_at (field_of name) 6) refl) refl
+  words_field : length name ≤ name_len_of v → IsBytes name → HasWords → drop 2 bytes ≡ field
+  words_field short fits words =
+      let n : ℕ = name_len_of v - length name in
+      let long : length field ≡ name_len_of v = omega (arith, length-append name (replicate n 0), length-replicate {A = ℕ} n 0) in
+      let many : length (drop 2 bytes) ≡ name_len_of v = omega (arith, length-drop 2 bytes, s.long) in
+      same_number_lists (drop 2 bytes) field (many ∙ sym long) (λ k h. byte_there k ((k + 2) / 8) (omega (arith, many)) refl fits words)
 
-  by_name : (o : Option Dirent) → dirent_at p block ≡ o → is_named name o ≡ true → has_words (u64_at (field_of name) 0) (u64_at (field_of name) 6) p block ≡ true
-  by_name None e h = cc
-  by_name (Some Free) e h = cc
-  by_name (Some (Used n other)) e h =
-      words_there n (e ∙ ap (λ (xs : List ℕ). Some (Used n xs)) ((bytes_eq-Decides other name).0 h))
+-- ---- one of some slots
 
-  words_same : (front back : ℕ) → front ≡ u64_at (field_of name) 0 → back ≡ u64_at (field_of name) 6 → has_words front back p block ≡ is_named name (dirent_at p block)
-  words_same front back f b =
-      rw (f, b) (same_from_decides {P = is_named name (dirent_at p block) ≡ true} _ _ (by_words, by_name (dirent_at p block) refl) (λ h. h, λ h. h))
+module _ (v : Version) (slots name : List ℕ) (p : ℕ) (words : List ℕ) (within : dirent_len_of v * p + dirent_len_of v ≤ length slots) (slots_fit : IsBytes slots)
+    (is : IsName v name) (name_fits : IsBytes name) (are : AreWords words name) where
+  abbrev slot : List ℕ
+  slot = record_at (dirent_len_of v) p slots
 
--- compared by the words of its name, a slot is used by this name exactly if it is
-pub words_name : (block name : List ℕ) (p : ℕ) → length block ≡ block_len → IsBytes block → IsBytes name → p < dirents_per_block
-    → IsName name
-    → (front back : ℕ) → front ≡ u64_at (field_of name) 0 → back ≡ u64_at (field_of name) 6 → has_words front back p block ≡ is_named name (dirent_at p block)
-words_name block name p long fits name_fits within is front back f b = words_same block name p (slot_in block p long fits within) name_fits is front back f b
+  s : IsSlot v slot
+  s = slot_in v slots p within slots_fit
 
--- the same of the bytes of one slot
-pub words_slot : (bytes name : List ℕ) → length bytes ≡ dirent_len → IsBytes bytes → IsBytes name → IsName name
-    → (front back : ℕ) → front ≡ u64_at (field_of name) 0 → back ≡ u64_at (field_of name) 6 → has_words front back 0 bytes ≡ is_named name (dirent_of bytes)
-words_slot bytes name long fits name_fits is front back f b =
-    let all : record_at dirent_len 0 bytes ≡ bytes = take_all dirent_len bytes (omega arith) in
-    let s : IsSlot bytes = record { long = long; fits = fits } in
-    words_same bytes name 0 (subst IsSlot (sym all) s) name_fits is front back f b ∙ ap (λ (xs : List ℕ). is_named name (dirent_of xs)) all
+  -- a word of the slot
+  word_there : (i : ℕ) → i < dirent_len_of v / 8 → u64_at slot (word_place i) ≡ u64_at slots (dirent_len_of v * p + word_place i)
+  word_there i h = u64_at-part slots (dirent_len_of v * p) (dirent_len_of v) (word_place i) (omega (arith, are_words v, (in_range v).2))
+
+  -- and of one with the name
+  word_named : (i : ℕ) → i < dirent_len_of v / 8 → slice_index words i ≡ u64_at name (word_place i - 2)
+  word_named i h = are i (omega (arith, (in_range v).3))
+
+  pub named_by_words : ((i : ℕ) → i < dirent_len_of v / 8 → u64_at slots (dirent_len_of v * p + word_place i) ≡ slice_index words i)
+      → u16_at slots (dirent_len_of v * p) ≢ 0 → is_named name (dirent_at v p slots) ≡ true
+  named_by_words all some =
+      let short : length name ≤ name_len_of v = (name_parts v name is).high in
+      let number : u16_at slot 0 ≢ 0 = λ z. some (sym (number-part v slots p) ∙ z) in
+      let there : drop 2 slot ≡ field v slot name s = words_field v slot name s short name_fits (λ i h. word_there i h ∙ all i h ∙ word_named i h) in
+      ap (is_named name) (named_there v slot name s is number there) ∙ (bytes_eq-Decides name name).1 refl
+
+  -- ---- of another name, or free
+
+  unnamed : ((n : ℕ) → dirent_at v p slots ≡ Some (Used n name) → ⊥) → is_named name (dirent_at v p slots) ≡ false
+  unnamed not = by_entry (dirent_at v p slots) refl
+    where
+      by_entry : (o : Option Dirent) → dirent_at v p slots ≡ o → is_named name o ≡ false
+      by_entry None e = refl
+      by_entry (Some Free) e = refl
+      by_entry (Some (Used n other)) e =
+          ⊎_elim
+          (λ (t : is_named name (Some (Used n other)) ≡ true).
+          absurd (not n (e ∙ ap (λ (xs : List ℕ). Some (Used n xs)) ((bytes_eq-Decides other name).0 t))))
+          (λ (f : is_named name (Some (Used n other)) ≡ false). f)
+          (cases_Bool (is_named name (Some (Used n other))))
+
+  pub unnamed_by_number : u16_at slots (dirent_len_of v * p) ≡ 0 → is_named name (dirent_at v p slots) ≡ false
+  unnamed_by_number zero = unnamed (λ n e. used_number v slot n name e (number-part v slots p ∙ zero))
+
+  pub unnamed_by_word : (i : ℕ) → i < dirent_len_of v / 8 → u64_at slots (dirent_len_of v * p + word_place i) ≢ slice_index words i
+      → is_named name (dirent_at v p slots) ≡ false
+  unnamed_by_word i h ne =
+      unnamed (λ n e. ne (sym (word_there i h) ∙ field_words v slot name s (field_there v slot name s n e) i h ∙ sym (word_named i h)))

@@ -5,7 +5,7 @@ same_digit : (a b r s : ℕ) → a < 256 → b < 256 → a + 256 * r ≡ b + 256
 same_digit a b r s ha hb e = (omega arith, omega arith)
 
 -- bytes that make one number are the same
-same_bytes : (n i : ℕ) (xs ys : List ℕ) → IsBytes xs → IsBytes ys → little_from i n xs ≡ little_from i n ys
+pub same_bytes : (n i : ℕ) (xs ys : List ℕ) → IsBytes xs → IsBytes ys → little_from i n xs ≡ little_from i n ys
     → (k : ℕ) → i ≤ k → k < i + n → get_or xs k 0 ≡ get_or ys k 0
 same_bytes zero i xs ys fx fy e k h l = absurd (omega arith)
 same_bytes (suc n) i xs ys fx fy e k h l =
@@ -14,22 +14,6 @@ same_bytes (suc n) i xs ys fx fy e k h l =
     (λ (q : i ≡ k). rw q at d.0)
     (λ (ne : i ≢ k). same_bytes n (suc i) xs ys fx fy d.1 k (omega arith) (omega arith))
     (cases_eq i k)
-
--- rows of bytes whose first eight and last eight make the same words are the same
-pub same_row : (n : ℕ) (xs ys : List ℕ) → n ≤ 8 → length xs ≡ n + 8 → length ys ≡ n + 8 → IsBytes xs → IsBytes ys
-    → u64_at xs 0 ≡ u64_at ys 0 → u64_at xs n ≡ u64_at ys n → xs ≡ ys
-unfolding u64_at
-same_row n xs ys few lx ly fx fy front back =
-    let back_of : (zs : List ℕ) → IsBytes zs → IsBytes (drop n zs) = λ zs f i. omega (arith, get_or-drop n zs i 0, f (n + i)) in
-    same_number_lists xs ys (omega arith)
-    (λ k h.
-    ⊎_elim
-    (λ (low : k < 8). same_bytes 8 0 xs ys fx fy front k (omega arith) (omega arith))
-    (λ (high : 8 ≤ k).
-    let e : n + (k - n) ≡ k = omega arith in
-    let there = same_bytes 8 0 (drop n xs) (drop n ys) (back_of xs fx) (back_of ys fy) back (k - n) (omega arith) (omega arith) in
-    ap (λ (i : ℕ). get_or xs i 0) (sym e) ∙ sym (get_or-drop n xs (k - n) 0) ∙ there ∙ get_or-drop n ys (k - n) 0 ∙ ap (λ (i : ℕ). get_or ys i 0) e)
-    (cases_lt k 8))
 
 -- a word at place k of a part is the whole's at place at + k
 pub u64_at-part : (bytes : List ℕ) (at n k : ℕ) → k + 8 ≤ n → u64_at (take n (drop at bytes)) k ≡ u64_at bytes (at + k)

@@ -1,26 +1,26 @@
 -- The slots of a directory, and what is sought in them.
 use Rattle.std.specs.Prelude.{ℕ, ◌+◌, ◌-◌, ◌*◌, ◌/◌, min, List, Option}
-use Rattle.directory.specs.Vocabulary.{option_map, Dinode, u16_at, dirent_len, dirents_per_block, most_blocks}
+use Rattle.directory.specs.Vocabulary.{option_map, Dinode, Version, u16_at, dirent_len_of, dirents_per_block_of, most_slots_of}
 use Rattle.directory.specs.Slots.{first_named, first_free, first_used}
 use Rattle.directory.specs.declared.found.Found.{Found}
 
 -- ---- the slots of a directory
 
 -- how many slots a directory may have
-abbrev pub most_slots : ℕ
-most_slots = dirents_per_block * most_blocks
+abbrev pub most_slots : Version → ℕ
+most_slots v = most_slots_of v
 
 -- how many it has
-abbrev pub slot_count : Dinode → ℕ
-slot_count d = min most_slots (d.size / dirent_len)
+abbrev pub slot_count : Version → Dinode → ℕ
+slot_count v d = min (most_slots v) (d.size / dirent_len_of v)
 
 -- how many blocks have them
-abbrev pub block_count : Dinode → ℕ
-block_count d = (slot_count d + (dirents_per_block - 1)) / dirents_per_block
+abbrev pub block_count : Version → Dinode → ℕ
+block_count v d = (slot_count v d + (dirents_per_block_of v - 1)) / dirents_per_block_of v
 
 -- how many of them block k has
-abbrev pub slots_in : Dinode → ℕ → ℕ
-slots_in d k = min dirents_per_block (slot_count d - dirents_per_block * k)
+abbrev pub slots_in : Version → Dinode → ℕ → ℕ
+slots_in v d k = min (dirents_per_block_of v) (slot_count v d - dirents_per_block_of v * k)
 
 -- ---- what is sought in them
 
@@ -33,14 +33,14 @@ pub data Aim : Type 0 where
   Entry : Aim
 
 -- the first such slot among the first `limit` of block k
-abbrev pub first_in : Aim → (k limit : ℕ) → List ℕ → Option ℕ
-first_in (Named name) k limit block = first_named name limit block
-first_in Unused k limit block = first_free limit block
-first_in Entry k limit block = first_used (2 - dirents_per_block * k) limit block
+abbrev pub first_in : Version → Aim → (k limit : ℕ) → List ℕ → Option ℕ
+first_in v (Named name) k limit block = first_named v name limit block
+first_in v Unused k limit block = first_free v limit block
+first_in v Entry k limit block = first_used v (2 - dirents_per_block_of v * k) limit block
 
 -- the slot at a place of block k, with the number that it has
-abbrev pub found_at : ℕ → List ℕ → ℕ → Found
-found_at k block place = record { slot = dirents_per_block * k + place; number = u16_at block (dirent_len * place) }
+abbrev pub found_at : Version → ℕ → List ℕ → ℕ → Found
+found_at v k block place = record { slot = dirents_per_block_of v * k + place; number = u16_at block (dirent_len_of v * place) }
 
-unfoldable pub found_in : Aim → Dinode → ℕ → List ℕ → Option Found
-found_in aim d k block = option_map (found_at k block) (first_in aim k (slots_in d k) block)
+unfoldable pub found_in : Version → Aim → Dinode → ℕ → List ℕ → Option Found
+found_in v aim d k block = option_map (found_at v k block) (first_in v aim k (slots_in v d k) block)

@@ -9,7 +9,7 @@ use Rattle.directory.specs.declared.clear.Slot.{Slot}
 
 -- the slot's block is there
 abbrev pub put_free : Slot → FetchedBlock → P Dinode
-put_free s f = put_dirent s.inodestart s.number s.inode s.slot Free f
+put_free s f = put_dirent s.version s.inodestart s.number s.inode s.slot Free f
 
 abbrev pub clear_left : Clear → Hand → P Dinode
 clear_left (Fetching s m) h = bind (block_left m h) (put_free s)
@@ -23,7 +23,7 @@ clear_asked (Storing d m) = store_asked m
 
 -- the slot is one that a directory may have, and the inode's block has a number
 abbrev pub IsSlotOf : Slot → Type 0
-IsSlotOf s = (s.slot < most_slots) × (inode_block s.inodestart s.number < 2 ^ 32)
+IsSlotOf s = (s.slot < most_slots s.version) × (inode_block s.inodestart s.number < 2 ^ 32)
 
 abbrev pub ClearReady : Clear → Hand → Type 0
 ClearReady (Fetching s m) h = IsSlotOf s × FetchesFirst m h × IsSome h.txn

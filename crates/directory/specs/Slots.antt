@@ -1,6 +1,6 @@
 -- The slots of a directory's block, looked at in their places.
-use Rattle.std.specs.Prelude.{ℕ, ◌+◌, ◌-◌, ◌*◌, ◌==◌, nat_le, ◌&&◌, not, List, ◌++◌, length, drop, replicate, Bool, true, false, Option, Some, None}
-use Rattle.directory.specs.Vocabulary.{bytes_eq, little_number, Dirent, Free, Used, u16_at, dirent_at, dirent_len, dirent_name_at, name_len, first_below}
+use Rattle.std.specs.Prelude.{◌≡◌, ℕ, ◌-◌, ◌*◌, ◌/◌, ◌<◌, max, nat_le, ◌&&◌, List, drop, slice_index, Bool, true, false, Option, Some, None}
+use Rattle.directory.specs.Vocabulary.{bytes_eq, little_number, Dirent, Version, Free, Used, dirent_at, dirent_name_at, longest_dirent, first_below}
 
 -- the slot is used, by this name
 abbrev pub is_named : List ℕ → Option Dirent → Bool
@@ -22,32 +22,29 @@ is_free (Some (Used number name)) = false
 
 -- Among the first `limit` slots of a block: the first one of this name; the first free one; the first used one from a
 -- place on.
-unfoldable pub first_named : List ℕ → ℕ → List ℕ → Option ℕ
-first_named name limit block = first_below (λ p. is_named name (dirent_at p block)) limit
+unfoldable pub first_named : Version → List ℕ → ℕ → List ℕ → Option ℕ
+first_named v name limit block = first_below (λ p. is_named name (dirent_at v p block)) limit
 
-unfoldable pub first_free : ℕ → List ℕ → Option ℕ
-first_free limit block = first_below (λ p. is_free (dirent_at p block)) limit
+unfoldable pub first_free : Version → ℕ → List ℕ → Option ℕ
+first_free v limit block = first_below (λ p. is_free (dirent_at v p block)) limit
 
-unfoldable pub first_used : ℕ → ℕ → List ℕ → Option ℕ
-first_used from limit block = first_below (λ p. nat_le from p && is_used (dirent_at p block)) limit
+unfoldable pub first_used : Version → ℕ → ℕ → List ℕ → Option ℕ
+first_used v from limit block = first_below (λ p. nat_le from p && is_used (dirent_at v p block)) limit
 
 -- ---- how the code compares: by words of eight bytes
 
--- the word at a place
+-- the word at a place: bytes past the end count as zeros
 unfoldable pub u64_at : List ℕ → ℕ → ℕ
 u64_at bytes at = little_number 8 (drop at bytes)
 
--- the field of a name: its bytes, and then zeros
-unfoldable pub field_of : List ℕ → List ℕ
-field_of name = name ++ replicate (name_len - length name) 0
+-- how many words the longest slot has
+abbrev pub most_words : ℕ
+most_words = longest_dirent / 8
 
--- the slot's number isn't 0, and the first and the last eight bytes of its name's field are these words
-unfoldable pub has_words : (front back place : ℕ) → List ℕ → Bool
-has_words front back place block =
-    not (u16_at block (dirent_len * place) == 0)
-    && (u64_at block (dirent_len * place + dirent_name_at) == front)
-    && (u64_at block (dirent_len * place + 8) == back)
+-- where word i of a slot with a name is: the first begins with the name, the others are the slot's
+abbrev pub word_place : ℕ → ℕ
+word_place i = max dirent_name_at (8 * i)
 
--- the slot is all zeros
-unfoldable pub is_clear : ℕ → List ℕ → Bool
-is_clear place block = (u64_at block (dirent_len * place) == 0) && (u64_at block (dirent_len * place + 8) == 0)
+-- these are the words of a slot with this name
+abbrev pub AreWords : List ℕ → List ℕ → Type 0
+AreWords words name = (i : ℕ) → i < most_words → slice_index words i ≡ u64_at name (word_place i - dirent_name_at)

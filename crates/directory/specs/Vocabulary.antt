@@ -1,7 +1,10 @@
 -- What the crates below call things: the words that this crate's definitions and contracts use.
 pub use Rattle.inode_data.specs.Vocabulary.{Answer, CanDo, Do, Goes, IsAfter, MatchOption, Oracle, P, Prepared, Prog, Put, Ret, StoreReady, asks, bare, bind, bits_per_block, block_at, block_len, bytes_at, bytes_of, inode_block, left_after, op_in, outcome, overwrite, store, store_asked, store_left, store_place, unmarked, with_bytes, with_content}
 unfoldable pub use Rattle.inode_data.specs.Vocabulary.{answer_in}
-pub use Rattle.fs_layout.specs.VersionOne.{IsDirent, IsName, dirent_at, dirent_of, dirent_len, dirents_per_block, name_len, spell_dirent}
+pub use Rattle.fs_layout.specs.Entry.{IsDirent, dirent_at, dirent_of, spell_dirent}
+pub use Rattle.fs_layout.specs.Name.{IsName}
+pub use Rattle.image_versions.specs.Versions.{dirent_len_of, dirents_per_block_of, longest_dirent, longest_name, most_slots_of, name_len_of, new_directory_size_of}
+pub use Rattle.image_versions.specs.declared.version.Version.{Version}
 pub use Rattle.fs_layout.specs.Widths.{dirent_name_at}
 pub use Rattle.fs_layout.specs.declared.entry.Dirent.TheVariants.{Free, Used}
 pub use Rattle.inode_data.specs.InHand.{FetchesFirst, HasBlock, NoBuffers, beside_buffers, block_in}

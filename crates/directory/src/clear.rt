@@ -7,13 +7,14 @@ ghost use Rattle.directory.specs.Clearing.{clear_left, clear_asked, ClearReady};
 use fs_layout::{Dinode, Dirent, write_dirent};
 use fs_machine::{Answer, Hand, Op, Part, Place, Routine};
 use image_versions::Version;
-use image_versions::one::{DIRENT_LEN, DIRENTS_PER_BLOCK};
 use inode_data::FetchBlock;
 use inode_table::StoreInode;
 
 /// A slot of a directory.
 #[derive(Clone, Copy, Drop)]
 pub struct Slot {
+    /// The version of its image.
+    pub version: Version,
     /// The directory as it is.
     pub inode: Dinode,
     /// Its number, on a disk whose inode blocks begin at `inodestart`.
@@ -38,12 +39,14 @@ pub enum Clear {
 impl Clear {
     /// This slot.
     pub fn new(slot: Slot) -> Clear
-        requires slot { slot.slot < most_slots }
+        requires slot { slot.slot < most_slots slot.version }
         requires block { inode_block slot.inodestart slot.number < 2 ^ 32 }
-        ensures program { (h : HandState) → clear_left result h ≡ put_entry slot.inodestart slot.number slot.inode slot.slot Free }
+        ensures program { (h : HandState) → clear_left result h
+            ≡ put_entry slot.version slot.inodestart slot.number slot.inode slot.slot Free }
         ensures ready { (h : HandState) → NoBuffers h → IsSome h.txn → ClearReady result h }
     {
-        let fetch = FetchBlock::new(&slot.inode, slot.slot as usize / DIRENTS_PER_BLOCK);
+        let block = slot.slot as usize / slot.version.dirents_per_block();
+        let fetch = FetchBlock::new(&slot.inode, block);
         Clear::Fetching(slot, fetch)
     }
 }
@@ -74,9 +77,9 @@ impl Routine for Clear {
         match self {
             Clear::Fetching(_, fetch) => fetch.op(hand),
             Clear::Write(slot) => {
-                let place = slot.slot as usize % DIRENTS_PER_BLOCK;
+                let place = slot.slot as usize % slot.version.dirents_per_block();
                 write_dirent(
-                    Version::One,
+                    slot.version,
                     hand.block_mut(Place::First),
                     place,
                     &Dirent::Free,
@@ -112,10 +115,10 @@ impl Routine for Clear {
 
 // The directory's record with the slot.
 fn slotted(slot: &Slot) -> Dinode
-    requires { slot.now.slot < most_slots }
-    ensures { result ≡ with_slot slot.now.slot slot.now.inode }
+    requires { slot.now.slot < most_slots slot.now.version }
+    ensures { result ≡ with_slot slot.now.version slot.now.slot slot.now.inode }
 {
-    let end = DIRENT_LEN as u32 * (slot.slot + 1);
+    let end = slot.version.dirent_len() as u32 * (slot.slot + 1);
     Dinode {
         size: slot.inode.size.max(end),
         ..slot.inode

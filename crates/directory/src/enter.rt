@@ -1,19 +1,21 @@
 //! A name entered.
 ghost use Rattle.std.specs.Prelude.{◌≡◌, ◌+◌, ◌*◌, ◌==◌, ◌<◌, ◌≤◌, ◌^◌, Some, None, IsSome, IfSome, IfNone};
-ghost use Rattle.directory.specs.Vocabulary.{Used, dirent_len, spell_dirent, IsName, bits_per_block, inode_block, begun_of, IfBegun, IsAfter, IsLoadedAt, answer_in, Goes, index_at, left_after, loaded_in, record_in, bare, Hand as HandState, InodePlace as InodePlaceState, NoBuffers};
+ghost use Rattle.directory.specs.Vocabulary.{Used, dirent_len_of, spell_dirent, IsName, bits_per_block, inode_block, begun_of, IfBegun, IsAfter, IsLoadedAt, answer_in, Goes, index_at, left_after, loaded_in, record_in, bare, Hand as HandState, InodePlace as InodePlaceState, NoBuffers};
 ghost use Rattle.directory.specs.Programs.{most_slots};
+ghost use Rattle.directory.specs.Indexes.{on_disk};
 ghost use Rattle.directory.specs.Entering.{EnteredState, enter, enter_at, entered_if, slot_for};
 ghost use Rattle.directory.specs.Searching.{beside_index, found_with};
 ghost use Rattle.directory.specs.EnterParts.{entered_as, enter_left, enter_asked, enter_seat, entered_in, EnterReady, IsEntering};
 
-use crate::found::{Found, MOST_SLOTS, Sought, slot_count};
+use crate::found::{Found, Sought, slot_count};
 use crate::search::Search;
 use crate::seat::enter_at;
 use byteorder::{ByteOrder, LittleEndian};
 use fs_layout::widths::DIRENT_NAME_AT;
 use fs_layout::{Dinode, Super};
 use fs_machine::{Answer, Hand, InodePlace, Op, Routine};
-use image_versions::one::DIRENT_LEN;
+use image_versions::Version;
+use image_versions::widths::LONGEST_DIRENT_LEN;
 use inode_data::{Begun, WritePart, Written};
 use inode_table::record_at;
 
@@ -31,7 +33,7 @@ pub enum Room {
     NoSlot,
 }
 
-/// The directory that a name is entered into, and the bytes of its entry.
+/// The directory that a name is entered into, and the bytes of its entry, at the front.
 #[derive(Clone, Copy, Drop)]
 pub struct Entering {
     /// The seat of its lock.
@@ -39,14 +41,15 @@ pub struct Entering {
     pub number: u32,
     /// The superblock of its disk.
     pub sizes: Super,
-    pub entry: [u8; DIRENT_LEN],
+    pub entry: [u8; LONGEST_DIRENT_LEN],
 }
 
-/// An entry on its way into a slot of the directory whose lock is at a seat.
+/// An entry on its way into a slot of the directory whose lock is at a seat. Its bytes are at the front.
 #[derive(Clone, Copy, Drop)]
 pub struct Placing {
+    pub version: Version,
     pub seat: InodePlace,
-    pub entry: [u8; DIRENT_LEN],
+    pub entry: [u8; LONGEST_DIRENT_LEN],
     pub slot: usize,
 }
 
@@ -82,7 +85,7 @@ impl Enter {
     ) -> Begun<Enter, Entered>
         requires size { sizes.now.size ≤ bits_per_block }
         requires block { inode_block sizes.now.inodestart number < 2 ^ 32 }
-        requires name { IsName name.now }
+        requires name { IsName sizes.now.version name.now }
         requires loaded { IsLoadedAt seat hand.now }
         ensures program { begun_of (λ m. enter_left m hand.now) (λ r. entered_as r hand.now) result
             ≡ enter sizes.now number (loaded_in seat hand.now) child name.now }
@@ -93,9 +96,9 @@ impl Enter {
             seat,
             number,
             sizes: *sizes,
-            entry: entry_bytes(child, name),
+            entry: entry_bytes(sizes.version, child, name),
         };
-        match Search::begin(hand, seat, Sought::Free) {
+        match Search::begin(sizes.version, hand, seat, Sought::Free) {
             Begun::Is(found) => place(&entering, found, hand),
             Begun::Runs(search) => Begun::Runs(Enter::Searching(entering, search)),
         }
@@ -126,7 +129,7 @@ impl Routine for Enter {
     fn op(&self, hand: &mut Hand) -> Op {
         match self {
             Enter::Searching(_, search) => search.op(hand),
-            Enter::Writing(placing, part) => part.op(&placing.entry, hand),
+            Enter::Writing(placing, part) => part.op(entry_in(placing), hand),
         }
     }
 
@@ -134,7 +137,8 @@ impl Routine for Enter {
     fn next(&mut self, answer: &Answer, hand: &mut Hand) -> Option<Entered> {
         match self {
             Enter::Searching(entering, search) => {
-                let found = search.next(entering.seat, Sought::Free, answer, hand)?;
+                let (version, seat) = (entering.sizes.version, entering.seat);
+                let found = search.next(version, seat, Sought::Free, answer, hand)?;
                 match place(entering, found, hand) {
                     Begun::Is(entered) => Some(entered),
                     Begun::Runs(enter) => {
@@ -145,7 +149,7 @@ impl Routine for Enter {
             }
             Enter::Writing(placing, part) => {
                 let placing = *placing;
-                let written = part.next(&placing.entry, answer, hand)?;
+                let written = part.next(entry_in(&placing), answer, hand)?;
                 Some(room_in(&placing, &written, hand))
             }
         }
@@ -157,24 +161,26 @@ fn place(entering: &Entering, found: Option<Found>, hand: &Hand) -> Begun<Enter,
     requires entering { IsEntering entering.now }
     requires loaded { IsLoadedAt entering.now.seat hand.now }
     ensures program { begun_of (λ m. enter_left m hand.now) (λ r. entered_as r hand.now) result
-        ≡ enter_at entering.now.sizes entering.now.number (record_in entering.now.seat hand.now) entering.now.entry
-        (found_with entering.now.seat found hand.now) }
+        ≡ enter_at entering.now.sizes entering.now.number (record_in entering.now.seat hand.now)
+        (on_disk entering.now.sizes.version entering.now.entry) (found_with entering.now.seat found hand.now) }
     ensures ready { NoBuffers hand.now → IsSome hand.now.txn → IfBegun (λ m. EnterReady m hand.now) (λ _. Unit {0}) result }
     ensures seat { IfBegun (λ m. enter_seat m ≡ entering.now.seat) (λ r. r.seat ≡ entering.now.seat) result }
 {
-    let seat = entering.seat;
+    let (version, seat) = (entering.sizes.version, entering.seat);
     let inode = record_at(hand, seat);
-    let slot = slot_for(inode, found);
-    if slot >= MOST_SLOTS {
+    let slot = slot_for(version, inode, found);
+    if slot >= version.most_slots() {
         return Begun::Is(Entered {
             inode: *inode,
             room: Room::NoSlot,
             seat,
         });
     }
-    let at = (DIRENT_LEN * slot) as u32;
-    let part = WritePart::begin(entering.number, inode, &entering.sizes, at, DIRENT_LEN);
+    let len = version.dirent_len();
+    let at = (len * slot) as u32;
+    let part = WritePart::begin(entering.number, inode, &entering.sizes, at, len);
     let placing = Placing {
+        version,
         seat,
         entry: entering.entry,
         slot,
@@ -182,31 +188,39 @@ fn place(entering: &Entering, found: Option<Found>, hand: &Hand) -> Begun<Enter,
     Begun::Runs(Enter::Writing(placing, part))
 }
 
+// The bytes of its entry.
+fn entry_in(placing: &Placing) -> &[u8]
+    ensures { result.now ≡ on_disk placing.now.version placing.now.entry }
+{
+    &placing.entry[..placing.version.dirent_len()]
+}
+
 // The slot of a new name: the free one that was found, or a new last one.
-fn slot_for(inode: &Dinode, found: Option<Found>) -> usize
-    ensures { result ≡ slot_for inode.now found }
+fn slot_for(version: Version, inode: &Dinode, found: Option<Found>) -> usize
+    ensures { result ≡ slot_for version inode.now found }
 {
     match found {
         Some(free) => free.slot as usize,
-        None => slot_count(inode),
+        None => slot_count(version, inode),
     }
 }
 
 // The result of writing a slot. If the entry is there the index has it.
 fn room_in(placing: &Placing, written: &Written, hand: &mut Hand) -> Entered
-    requires slot { placing.now.slot < most_slots }
+    requires slot { placing.now.slot < most_slots placing.now.version }
     requires loaded { IsLoadedAt placing.now.seat hand.old }
-    ensures entered { result ≡ entered_in placing.now.seat placing.now.slot written.now }
-    ensures state { entered_as result hand.new ≡ entered_if placing.now.slot placing.now.entry (index_at placing.now.seat hand.old)
-        written.now.inode (written.now.upto == dirent_len * (placing.now.slot + 1)) }
+    ensures entered { result ≡ entered_in placing.now.version placing.now.seat placing.now.slot written.now }
+    ensures state { entered_as result hand.new ≡ entered_if placing.now.version placing.now.slot
+        (on_disk placing.now.version placing.now.entry) (index_at placing.now.seat hand.old) written.now.inode
+        (written.now.upto == dirent_len_of placing.now.version * (placing.now.slot + 1)) }
     ensures loaded { IsLoadedAt placing.now.seat hand.new }
     ensures buffers { NoBuffers hand.old → NoBuffers hand.new }
     ensures beside { beside_index placing.now.seat hand.new ≡ beside_index placing.now.seat hand.old }
     ensures hand { bare hand.new ≡ bare hand.old }
 {
-    let seat = placing.seat;
-    let room = if written.upto == DIRENT_LEN * (placing.slot + 1) {
-        enter_at(hand, seat, placing.slot, &placing.entry);
+    let (version, seat) = (placing.version, placing.seat);
+    let room = if written.upto == version.dirent_len() * (placing.slot + 1) {
+        enter_at(version, hand, seat, placing.slot, entry_in(placing));
         Room::There
     } else {
         Room::NoBlock
@@ -218,12 +232,12 @@ fn room_in(placing: &Placing, written: &Written, hand: &mut Hand) -> Entered
     }
 }
 
-/// The bytes of an entry of this number and name. It has the low 16 bits of the number.
-pub fn entry_bytes(number: u32, name: &[u8]) -> [u8; DIRENT_LEN]
-    requires { IsName name.now }
-    ensures { result ≡ spell_dirent (Used number name.now) }
+/// The bytes of an entry of this number and name, at the front. It has the low 16 bits of the number.
+pub fn entry_bytes(version: Version, number: u32, name: &[u8]) -> [u8; LONGEST_DIRENT_LEN]
+    requires { IsName version name.now }
+    ensures { on_disk version result ≡ spell_dirent version (Used number name.now) }
 {
-    let mut entry = [0; DIRENT_LEN];
+    let mut entry = [0; LONGEST_DIRENT_LEN];
     LittleEndian::write_u16(&mut entry, (number % NUMBERS) as u16);
     entry[DIRENT_NAME_AT..DIRENT_NAME_AT + name.len()].copy_from_slice(name);
     entry

@@ -1,17 +1,18 @@
 //! The names of a new directory, written.
-ghost use Rattle.std.specs.Prelude.{◌≡◌, ◌≤◌, ◌<◌, ◌^◌, Some, IsSome, IfSome, IfNone};
-ghost use Rattle.directory.specs.Vocabulary.{bits_per_block, inode_block, IsAfter, answer_in, Goes, left_after, bare, Hand as HandState, beside_buffers, NoBuffers, written_as};
+ghost use Rattle.std.specs.Prelude.{◌≡◌, ◌≤◌, ◌<◌, ◌^◌, take, Some, IsSome, IfSome, IfNone};
+ghost use Rattle.directory.specs.Vocabulary.{bits_per_block, new_directory_size_of, inode_block, IsAfter, answer_in, Goes, left_after, bare, Hand as HandState, beside_buffers, NoBuffers, written_as};
 ghost use Rattle.directory.specs.Filling.{dots, fill, fill_left, fill_asked, filled_in, FillReady};
 ghost use Rattle.directory.specs.declared.fill.Filled.{Filled as FilledState};
 
 use crate::enter::entry_bytes;
 use fs_layout::{Dinode, Super};
 use fs_machine::{Answer, Hand, Op, Routine};
-use image_versions::one::DIRENT_LEN;
+use image_versions::Version;
+use image_versions::widths::LONGEST_DIRENT_LEN;
 use inode_data::{WritePart, Written};
 
-// "." and "..".
-const DOTS_LEN: usize = 2 * DIRENT_LEN;
+// "." and ".." at their longest.
+const LONGEST_DOTS: usize = 2 * LONGEST_DIRENT_LEN;
 
 /// The directory as it was stored, and whether it has its two names: it has none if no block was free.
 #[derive(Clone, Copy, Drop)]
@@ -23,7 +24,9 @@ pub struct Filled {
 /// Writes "." and ".." into a new directory, and stores it.
 #[derive(Drop)]
 pub struct Fill {
-    pub bytes: [u8; DOTS_LEN],
+    pub version: Version,
+    /// The two entries, at the front.
+    pub bytes: [u8; LONGEST_DOTS],
     pub part: WritePart,
 }
 
@@ -35,9 +38,11 @@ impl Fill {
         ensures program { (h : HandState) → fill_left result h ≡ fill sizes.now number inode.now parent }
         ensures ready { (h : HandState) → NoBuffers h → IsSome h.txn → FillReady result h }
     {
+        let version = sizes.version;
         Fill {
-            bytes: dots(number, parent),
-            part: WritePart::begin(number, inode, sizes, 0, DOTS_LEN),
+            version,
+            bytes: dots(version, number, parent),
+            part: WritePart::begin(number, inode, sizes, 0, version.new_directory_size()),
         }
     }
 }
@@ -64,32 +69,36 @@ impl Routine for Fill {
     ghost Ends = { λ _ _ h. NoBuffers h };
 
     fn op(&self, hand: &mut Hand) -> Op {
-        self.part.op(&self.bytes, hand)
+        self.part
+            .op(&self.bytes[..self.version.new_directory_size()], hand)
     }
 
     #[tactic(auto, using(fs_machine::proofs::Going::goes_bind))]
     fn next(&mut self, answer: &Answer, hand: &mut Hand) -> Option<Filled> {
-        let written = self.part.next(&self.bytes, answer, hand)?;
-        Some(whole_in(&written))
+        let version = self.version;
+        let bytes = &self.bytes[..version.new_directory_size()];
+        let written = self.part.next(bytes, answer, hand)?;
+        Some(whole_in(version, &written))
     }
 }
 
 // The result of the writing.
-fn whole_in(written: &Written) -> Filled
-    ensures { result ≡ filled_in (written_as written.now) }
+fn whole_in(version: Version, written: &Written) -> Filled
+    ensures { result ≡ filled_in version (written_as written.now) }
 {
     Filled {
         inode: written.inode,
-        whole: written.upto == DOTS_LEN,
+        whole: written.upto == version.new_directory_size(),
     }
 }
 
-// The bytes of a new directory.
-fn dots(number: u32, parent: u32) -> [u8; DOTS_LEN]
-    ensures { result ≡ dots number parent }
+// The bytes of a new directory, at the front.
+fn dots(version: Version, number: u32, parent: u32) -> [u8; LONGEST_DOTS]
+    ensures { take (new_directory_size_of version) result ≡ dots version number parent }
 {
-    let mut bytes = [0; DOTS_LEN];
-    bytes[..DIRENT_LEN].copy_from_slice(&entry_bytes(number, b"."));
-    bytes[DIRENT_LEN..].copy_from_slice(&entry_bytes(parent, b".."));
+    let len = version.dirent_len();
+    let mut bytes = [0; LONGEST_DOTS];
+    bytes[..len].copy_from_slice(&entry_bytes(version, number, b".")[..len]);
+    bytes[len..2 * len].copy_from_slice(&entry_bytes(version, parent, b"..")[..len]);
     bytes
 }

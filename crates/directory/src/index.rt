@@ -1,19 +1,20 @@
 //! The index of a directory's names: what is sought found in it, and kept as the directory's blocks are read and its
 //! slots written.
-ghost use Rattle.std.specs.Prelude.{◌≡◌, ◌+◌, ◌*◌, ◌≤◌, ◌<◌, ℕ, List, nat_le, IfSome, MatchOption, insert, length, remove};
-ghost use Rattle.directory.specs.Vocabulary.{dirent_of, dirent_len, dirents_per_block, most_blocks, record_at, IsBytes, IsName};
+ghost use Rattle.std.specs.Prelude.{◌≡◌, ◌+◌, ◌*◌, ◌^◌, ◌≤◌, ◌<◌, nat_le, IfSome, MatchOption, insert, length, remove};
+ghost use Rattle.directory.specs.Vocabulary.{IsName, dirent_of, dirent_len_of, dirents_per_block_of, most_blocks, record_at};
 ghost use Rattle.directory.specs.Aims.{most_slots};
-ghost use Rattle.directory.specs.Slots.{field_of, is_named, u64_at};
-ghost use Rattle.directory.specs.Indexes.{cleared, first_gap, first_of, first_that, found_as, free_below, index_room, placed, used_in, with_block, with_entry, without};
+ghost use Rattle.directory.specs.Slots.{is_named};
+ghost use Rattle.directory.specs.Indexes.{cleared, first_gap, first_of, first_that, found_as, free_below, kept, on_disk, placed, used_in, with_block, with_entry, without};
 ghost use Rattle.directory.specs.Sought.{aim_of, IsSlot, IsSought};
 ghost use Rattle.fs_machine.specs.declared.name_index.IndexedSlot.{IndexedSlot as IndexedSlotState};
 
 use crate::found::{DOTS, Found, Sought, slot_count};
-use crate::slots::{Words, has_words, number_at, number_in, words_of};
+use crate::slots::{has_name, number_at, number_in, words_of};
 use fs_layout::Dinode;
 use fs_layout::widths::Block;
 use fs_machine::{INDEXED_SLOTS, IndexedSlot, NameIndex};
-use image_versions::one::{DIRENT_LEN, DIRENTS_PER_BLOCK};
+use image_versions::Version;
+use image_versions::widths::LONGEST_DIRENT_LEN;
 
 // A slot of the index, as one that was found.
 fn found_as(slot: &IndexedSlot) -> Found
@@ -21,27 +22,19 @@ fn found_as(slot: &IndexedSlot) -> Found
 {
     Found {
         slot: slot.place,
-        number: u32::from(number_in(&slot.bytes, 0)),
+        number: u32::from(number_in(&slot.bytes)),
     }
 }
 
-// Whether a slot of these bytes is used by the name that has these words.
-fn has_name(bytes: &[u8; DIRENT_LEN], words: Words) -> bool
-    ensures { (name : List ℕ) → IsName name → IsBytes name → words.front ≡ u64_at (field_of name) 0 → words.back ≡ u64_at (field_of name) 6
-        → result ≡ is_named name (dirent_of bytes.now) }
-{
-    has_words(bytes, 0, words)
-}
-
 // The first one of this name, among the first `count` slots of the directory.
-fn first_named(slots: &[IndexedSlot], count: usize, name: &[u8]) -> Option<Found>
-    requires { IsName name.now }
-    ensures found { result ≡ first_that (λ e. is_named name.now (dirent_of e.bytes)) count slots.now }
+fn first_named(version: Version, slots: &[IndexedSlot], count: usize, name: &[u8]) -> Option<Found>
+    requires { IsName version name.now }
+    ensures found { result ≡ first_that (λ e. is_named name.now (dirent_of version (on_disk version e.bytes))) count slots.now }
     ensures below { IfSome result (λ f. f.slot < count) }
 {
     let words = words_of(name);
     for slot in slots {
-        if (slot.place as usize) < count && has_name(&slot.bytes, words) {
+        if (slot.place as usize) < count && has_name(version, &slot.bytes, 0, &words) {
             return Some(found_as(slot));
         }
     }
@@ -76,7 +69,7 @@ fn first_gap(slots: &[IndexedSlot]) -> usize
 
 // This slot, if it is below the limit.
 fn free_below(limit: usize, slot: usize) -> Option<Found>
-    requires { limit ≤ most_slots }
+    requires { limit < 2 ^ 32 }
     ensures free { result ≡ free_below limit slot }
     ensures below { IfSome result (λ f. f.slot < limit) }
 {
@@ -93,16 +86,22 @@ fn free_below(limit: usize, slot: usize) -> Option<Found>
 // The first slot in the blocks of an index that is sought.
 #[inline(always)]
 #[tactic(auto, unfolding(crate::specs::Indexes::first_of))]
-pub(crate) fn first_of(index: &NameIndex, inode: &Dinode, sought: Sought) -> Option<Found>
-    requires sought { IsSought sought }
-    ensures found { result ≡ first_of (aim_of sought.entry) inode.now index.now }
-    ensures slot { IsSlot result }
+pub(crate) fn first_of(
+    version: Version,
+    index: &NameIndex,
+    inode: &Dinode,
+    sought: Sought,
+) -> Option<Found>
+    requires sought { IsSought version sought }
+    ensures found { result ≡ first_of version (aim_of sought.entry) inode.now index.now }
+    ensures slot { IsSlot version result }
 {
-    let count = slot_count(inode);
+    let count = slot_count(version, inode);
     match sought {
-        Sought::Name(name) => first_named(index.slots(), count, name),
+        Sought::Name(name) => first_named(version, index.slots(), count, name),
         Sought::Free => {
-            let known = DIRENTS_PER_BLOCK.saturating_mul(index.blocks());
+            let blocks = index.blocks();
+            let known = version.dirents_per_block().saturating_mul(blocks);
             free_below(known.min(count), first_gap(index.slots()))
         }
         Sought::Entry => first_entry(index.slots(), count),
@@ -111,48 +110,62 @@ pub(crate) fn first_of(index: &NameIndex, inode: &Dinode, sought: Sought) -> Opt
 
 // Block `k`, of which `count` slots are the directory's, was read. If it is the next one, and there is room for its
 // used slots, the index has that too.
-pub(crate) fn raise(index: &mut NameIndex, k: usize, count: usize, block: &Block)
+pub(crate) fn raise(version: Version, index: &mut NameIndex, k: usize, count: usize, block: &Block)
     requires block { k < most_blocks }
-    requires count { count ≤ dirents_per_block }
-    ensures { index.new ≡ with_block k (used_in k count block.now) index.old }
+    requires count { count ≤ dirents_per_block_of version }
+    ensures { index.new ≡ with_block k (used_in version k count block.now) index.old }
 {
     if index.blocks() != k {
         return;
     }
     let had = index.slots().len();
     for place in 0..count {
-        if number_at(block, place) != 0 {
+        if number_at(version, block, place) != 0 {
             if index.slots().len() == INDEXED_SLOTS {
                 index.truncate(had);
                 return;
             }
-            index.push(slot_at(block, k, place));
+            index.push(slot_at(version, block, k, place));
         }
     }
     index.set_blocks(k + 1);
 }
 
 // The slot at a place of block `k`.
-fn slot_at(block: &Block, k: usize, place: usize) -> IndexedSlot
+fn slot_at(version: Version, block: &Block, k: usize, place: usize) -> IndexedSlot
     requires block { k < most_blocks }
-    requires place { place < dirents_per_block }
-    ensures { result ≡ record { place = dirents_per_block * k + place; bytes = record_at dirent_len place block.now } }
+    requires place { place < dirents_per_block_of version }
+    ensures { result ≡ record {
+      place = dirents_per_block_of version * k + place;
+      bytes = kept (record_at (dirent_len_of version) place block.now);
+    } }
 {
-    let mut bytes = [0; DIRENT_LEN];
-    bytes.copy_from_slice(&block[DIRENT_LEN * place..DIRENT_LEN * (place + 1)]);
+    let len = version.dirent_len();
+    let at = len * place;
     IndexedSlot {
-        place: (DIRENTS_PER_BLOCK * k + place) as u32,
-        bytes,
+        place: (version.dirents_per_block() * k + place) as u32,
+        bytes: kept(&block[at..at + len]),
     }
+}
+
+// A slot's bytes, and zeros after them.
+fn kept(bytes: &[u8]) -> [u8; LONGEST_DIRENT_LEN]
+    requires { length bytes.now ≤ LONGEST_DIRENT_LEN }
+    ensures { result ≡ kept bytes.now }
+{
+    let mut all = [0; LONGEST_DIRENT_LEN];
+    all[..bytes.len()].copy_from_slice(bytes);
+    all
 }
 
 // An entry of these bytes was put into a slot.
 #[tactic(auto, unfolding(crate::specs::Indexes::with_entry))]
-pub(crate) fn enter(index: &mut NameIndex, slot: usize, bytes: &[u8; DIRENT_LEN])
-    requires { slot < most_slots }
-    ensures { index.new ≡ with_entry slot bytes.now index.old }
+pub(crate) fn enter(version: Version, index: &mut NameIndex, slot: usize, bytes: &[u8])
+    requires slot { slot < most_slots version }
+    requires bytes { length bytes.now ≡ dirent_len_of version }
+    ensures { index.new ≡ with_entry version slot bytes.now index.old }
 {
-    if slot / DIRENTS_PER_BLOCK >= index.blocks() {
+    if slot / version.dirents_per_block() >= index.blocks() {
         return;
     }
     if index.slots().len() == INDEXED_SLOTS {
@@ -161,7 +174,7 @@ pub(crate) fn enter(index: &mut NameIndex, slot: usize, bytes: &[u8; DIRENT_LEN]
     }
     let slot = IndexedSlot {
         place: slot as u32,
-        bytes: *bytes,
+        bytes: kept(bytes),
     };
     let at = first_behind(index.slots(), slot.place);
     index.insert(at, slot);

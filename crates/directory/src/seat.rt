@@ -1,6 +1,6 @@
 //! The index of the directory whose lock is at a seat.
-ghost use Rattle.std.specs.Prelude.{◌≡◌, ◌<◌, ◌≤◌, IsSome};
-ghost use Rattle.directory.specs.Vocabulary.{MatchOption, option_map, bytes_at, dirents_per_block, index_at, index_of, indexed, most_blocks, record_in, with_index, First, IsLoadedAt};
+ghost use Rattle.std.specs.Prelude.{◌≡◌, ◌<◌, ◌≤◌, length, IsSome};
+ghost use Rattle.directory.specs.Vocabulary.{MatchOption, option_map, bytes_at, dirent_len_of, dirents_per_block_of, index_at, index_of, indexed, most_blocks, record_in, with_index, First, IsLoadedAt};
 ghost use Rattle.directory.specs.Programs.{found_in, most_slots, slots_in};
 ghost use Rattle.directory.specs.Indexes.{cleared, raised, used_in, with_block, with_entry};
 ghost use Rattle.directory.specs.Sought.{aim_of, IsSlot, IsSought};
@@ -10,7 +10,7 @@ use crate::index::{clear, enter, raise};
 use fs_layout::Dinode;
 use fs_layout::widths::Block;
 use fs_machine::{Hand, Inode, InodePlace, NameIndex, Place};
-use image_versions::one::DIRENT_LEN;
+use image_versions::Version;
 use inode_table::record_at;
 use sleep_lock::Guard;
 
@@ -22,75 +22,101 @@ pub(crate) fn index_at(hand: &Hand, seat: InodePlace) -> &NameIndex
     hand.inode(seat).index()
 }
 
-fn raise_in(place: &mut Option<Guard<Inode>>, k: usize, count: usize, block: &Block)
+fn raise_in(
+    version: Version,
+    place: &mut Option<Guard<Inode>>,
+    k: usize,
+    count: usize,
+    block: &Block,
+)
     requires loaded { MatchOption place.old ⊥ (λ g. IsSome g.value.content) }
     requires block { k < most_blocks }
-    requires count { count ≤ dirents_per_block }
-    ensures { place.new ≡ option_map (λ g. indexed (with_block k (used_in k count block.now) (index_of g.value)) g) place.old }
+    requires count { count ≤ dirents_per_block_of version }
+    ensures { place.new ≡ option_map (λ g. indexed (with_block k (used_in version k count block.now) (index_of g.value)) g) place.old }
 {
     match place {
-        Some(guard) => raise(guard.value_mut().index_mut(), k, count, block),
+        Some(guard) => raise(version, guard.value_mut().index_mut(), k, count, block),
         None => unreachable!(),
     }
 }
 
 // The block in hand, which is block `k`, was read; `count` of its slots are the directory's.
 #[inline(always)]
-fn raise_at(hand: &mut Hand, seat: InodePlace, k: usize, count: usize)
+fn raise_at(version: Version, hand: &mut Hand, seat: InodePlace, k: usize, count: usize)
     requires valid { MatchOption hand.old.first ⊥ (λ g. IsSome g.value.content) }
     requires loaded { IsLoadedAt seat hand.old }
     requires block { k < most_blocks }
-    requires count { count ≤ dirents_per_block }
-    ensures { hand.new ≡ with_index seat (with_block k (used_in k count (bytes_at First hand.old)) (index_at seat hand.old)) hand.old }
+    requires count { count ≤ dirents_per_block_of version }
+    ensures { hand.new
+        ≡ with_index seat (with_block k (used_in version k count (bytes_at First hand.old)) (index_at seat hand.old)) hand.old }
 {
     match &hand.first {
         None => unreachable!(),
         Some(guard) => match seat {
-            InodePlace::One => raise_in(&mut hand.one, k, count, guard.value().bytes()),
-            InodePlace::Two => raise_in(&mut hand.two, k, count, guard.value().bytes()),
+            InodePlace::One => raise_in(version, &mut hand.one, k, count, guard.value().bytes()),
+            InodePlace::Two => raise_in(version, &mut hand.two, k, count, guard.value().bytes()),
         },
     }
 }
 
 // What is found in the block in hand, which is block `k`.
 #[inline(always)]
-fn found_at(hand: &Hand, inode: &Dinode, k: usize, sought: Sought) -> Option<Found>
+fn found_at(
+    version: Version,
+    hand: &Hand,
+    inode: &Dinode,
+    k: usize,
+    sought: Sought,
+) -> Option<Found>
     requires valid { MatchOption hand.now.first ⊥ (λ g. IsSome g.value.content) }
     requires block { k < most_blocks }
-    requires sought { IsSought sought }
-    ensures found { result ≡ found_in (aim_of sought.entry) inode.now k (bytes_at First hand.now) }
-    ensures slot { IsSlot result }
+    requires sought { IsSought version sought }
+    ensures found { result ≡ found_in version (aim_of sought.entry) inode.now k (bytes_at First hand.now) }
+    ensures slot { IsSlot version result }
 {
-    found_in(hand.block(Place::First), inode, k, sought)
+    found_in(version, hand.block(Place::First), inode, k, sought)
 }
 
 // The same, and the block is indexed besides, if it may be.
 #[inline(always)]
 #[tactic(auto, unfolding(crate::specs::Indexes::raised))]
-pub(crate) fn look_at(hand: &mut Hand, seat: InodePlace, k: usize, sought: Sought) -> Option<Found>
+pub(crate) fn look_at(
+    version: Version,
+    hand: &mut Hand,
+    seat: InodePlace,
+    k: usize,
+    sought: Sought,
+) -> Option<Found>
     requires valid { MatchOption hand.old.first ⊥ (λ g. IsSome g.value.content) }
     requires loaded { IsLoadedAt seat hand.old }
     requires block { k < most_blocks }
-    requires sought { IsSought sought }
-    ensures found { result ≡ found_in (aim_of sought.entry) (record_in seat hand.old) k (bytes_at First hand.old) }
-    ensures slot { IsSlot result }
+    requires sought { IsSought version sought }
+    ensures found { result ≡ found_in version (aim_of sought.entry) (record_in seat hand.old) k (bytes_at First hand.old) }
+    ensures slot { IsSlot version result }
     ensures hand { hand.new
-        ≡ with_index seat (raised (record_in seat hand.old) k (bytes_at First hand.old) (index_at seat hand.old)) hand.old }
+        ≡ with_index seat (raised version (record_in seat hand.old) k (bytes_at First hand.old) (index_at seat hand.old)) hand.old }
 {
     let inode = record_at(hand, seat);
-    let found = found_at(hand, inode, k, sought);
-    let count = slots_in(inode, k);
-    raise_at(hand, seat, k, count);
+    let found = found_at(version, hand, inode, k, sought);
+    let count = slots_in(version, inode, k);
+    raise_at(version, hand, seat, k, count);
     found
 }
 
 // An entry of these bytes was put into a slot.
-pub(crate) fn enter_at(hand: &mut Hand, seat: InodePlace, slot: usize, bytes: &[u8; DIRENT_LEN])
+pub(crate) fn enter_at(
+    version: Version,
+    hand: &mut Hand,
+    seat: InodePlace,
+    slot: usize,
+    bytes: &[u8],
+)
     requires loaded { IsLoadedAt seat hand.old }
-    requires slot { slot < most_slots }
-    ensures { hand.new ≡ with_index seat (with_entry slot bytes.now (index_at seat hand.old)) hand.old }
+    requires slot { slot < most_slots version }
+    requires bytes { length bytes.now ≡ dirent_len_of version }
+    ensures { hand.new ≡ with_index seat (with_entry version slot bytes.now (index_at seat hand.old)) hand.old }
 {
-    enter(hand.index_mut(seat), slot, bytes);
+    enter(version, hand.index_mut(seat), slot, bytes);
 }
 
 /// A slot of the directory was cleared, and goes from its index.

@@ -1,7 +1,7 @@
 -- What the proofs of this crate's functions use: its lemmas, and what they speak of.
 pub use Rattle.explain.proofs.Vocabulary.{ExplainRefused, Global, IsRefusedMount, Ok, Placed, Vec, any_climbs, inr, subst, ◌∙◌}
 pub use Rattle.hart_core.proofs.Vocabulary.{IsCall, Option, ap, refl, sym}
-pub use Rattle.explain.proofs.Mounting.{refused_mount}
+pub use Rattle.explain.proofs.Mounting.{refused_mount, refused_tree}
 pub use Rattle.explain.proofs.Running.{knows, nowhere, own_played}
 pub use Rattle.explain.proofs.Noting.{keeps_from, was_told}
 pub use Rattle.std.specs.Option.{option_map}

@@ -4,7 +4,7 @@ use Rattle.std.specs.Option.{option_map}
 use Rattle.std.specs.Prelude.{◌+◌, ◌-◌, ◌^◌, ◌<◌, ◌≤◌, min, ◌++◌, length, Bool, Option, Some, None, slice_get}
 use Rattle.std.proofs.Common.{refl, sym, ap, arith, append_assoc}
 use Rattle.hart_core.proofs.Vocabulary.{nat_tests}
-use Rattle.explain.specs.Vocabulary.{Super, Heard, heard_in, HartsOf, KeptTree, NotesEvent, TreeData, ended, nothing_kept}
+use Rattle.explain.specs.Vocabulary.{Super, Heard, Version, heard_in, HartsOf, KeptTree, NotesEvent, TreeData, ended, nothing_kept}
 use Rattle.explain.specs.Keeps.{HasNoted}
 use Rattle.kept_histories.specs.Keeps.{KeepsEvent, KeepsRun}
 use Rattle.explain.specs.Telling.{TellsKeeper}
@@ -71,11 +71,11 @@ module _ {D : Type 0} (contents : D → List (List ℕ)) (failures : D → ℕ) 
   -- a keeper that began with this tree
   pub keeps_from : (old : HartsOf D) (t : Telling) (es : List Event) (cs : List Came) (new : HartsOf D) (t' : Telling) (k' : KeptTree)
       → t.events.now ≡ es → t.place ≡ 0 → length es < 2 ^ 64 → NotesRun contents failures TellsKeeper sizes old t es cs new t' → t'.keeper ≡ Some k'
-      → (base tree : TreeData) → base ≡ tree → t.keeper ≡ Some (nothing_kept base) → KeepsRun contents failures sizes old (nothing_kept tree) es cs new k'
-  keeps_from old t es cs new t' k' events place room run is base tree same first =
+      → (had has : Version) → had ≡ has → (base tree : TreeData) → base ≡ tree → t.keeper ≡ Some (nothing_kept had base) → KeepsRun contents failures sizes old (nothing_kept has tree) es cs new k'
+  keeps_from old t es cs new t' k' events place room run is had has version base tree same first =
       let from = noted_run [] old t es cs new t' k' events place room run is in
-      let began : from.kept ≡ nothing_kept base = (let e : Some from.kept ≡ Some (nothing_kept base) = sym from.is ∙ first in cc e) in
-      subst (λ (k : KeptTree). KeepsRun contents failures sizes old k es cs new k') (began ∙ ap nothing_kept same) from.run
+      let began : from.kept ≡ nothing_kept had base = (let e : Some from.kept ≡ Some (nothing_kept had base) = sym from.is ∙ first in cc e) in
+      subst (λ (k : KeptTree). KeepsRun contents failures sizes old k es cs new k') (began ∙ (λ i. nothing_kept (version i) (same i))) from.run
 
 -- ---- at its end
 

@@ -9,7 +9,7 @@ pub use Rattle.explain.specs.Played.{IsPlayed}
 pub use Rattle.explain.specs.declared.play.Played.{Played}
 pub use Rattle.explain.specs.declared.refused.ExplainRefused.{ExplainRefused}
 pub use Rattle.hart_core.proofs.Histories.{explained}
-pub use Rattle.image_tree.specs.VersionOne.{JudgesFault}
+pub use Rattle.image_tree.specs.Images.{JudgesFault}
 pub use Rattle.image_tree.specs.declared.fault.MountFault.TheVariants.{Damaged, DeviceFault, NoMemory}
 pub use Rattle.std.proofs.Common.{MatchResult}
 pub use Rattle.std.proofs.lemmas.Bool.{or_parts}

@@ -2,7 +2,7 @@
 use Rattle.std.specs.Prelude.{◌≡◌, ◌⊎◌, ◌≤◌, ℕ, true, false, List, length, MatchResult, Option, Result, Vec}
 use Rattle.run_laws.specs.OneList.{AgreesWithTheList, list_of}
 use Rattle.kept_histories.specs.Keeps.{KeepsRun}
-use Rattle.explain.specs.Vocabulary.{Global, KeptTree, nothing_kept, ended, some_lacks_place, blocks_of, Call, Placed, Trace, Explains, TreeData, MountFault, IsFirstDamage, IsWellFormed, tree_in, EventOf, Outside, Came, Event, HartsOf, FoundRoom, HasHistory, IsHistory, IsMounted, trace_in, WorldOf, any_climbs, any_full}
+use Rattle.explain.specs.Vocabulary.{Global, KeptTree, nothing_kept, ended, some_lacks_place, blocks_of, Call, Placed, Trace, Explains, TreeData, MountFault, IsFirstDamage, IsWellFormed, tree_in, version_in, Version, EventOf, Outside, Came, Event, HartsOf, FoundRoom, HasHistory, IsHistory, IsMounted, trace_in, WorldOf, any_climbs, any_full}
 use Rattle.image_tree.specs.declared.fault.MountFault.TheVariants as faults
 use Rattle.explain.specs.Keeps.{SawNoRoom, SawRoom, KnowsWhy}
 use Rattle.explain.specs.declared.refused.ExplainRefused.{ExplainRefused}
@@ -29,7 +29,7 @@ pub record RunOn (image : List ℕ) (events : List Event) : Type 0 where
 -- What a keeper has that noted each event of the run, from the image's tree on, and its end.
 pub record KeepsToTheEnd (image : List ℕ) (events : List Event) (r : RunOn image events) (k : KeptTree) : Type 0 where
   pub kept : KeptTree
-  pub keeps : KeepsRun blocks_of never r.world.sizes r.world.harts (nothing_kept (tree_in (blocks_of image))) events r.outcomes r.new kept
+  pub keeps : KeepsRun blocks_of never r.world.sizes r.world.harts (nothing_kept (version_in (blocks_of image)) (tree_in (blocks_of image))) events r.outcomes r.new kept
   pub is : k ≡ ended (some_lacks_place r.new) kept
 
 module _ (image : List ℕ) (events : List Event) (r : RunOn image events) where
@@ -53,7 +53,7 @@ module _ (image : List ℕ) (events : List Event) (r : RunOn image events) where
 pub record OwnsRun (image : List ℕ) (events : List Event) (list : List Placed) : Type 0 where
   pub run : RunOn image events
   pub room : EachFoundRoom image events run
-  pub explains : Explains (tree_in (blocks_of image)) (trace_in events run.outcomes) list
+  pub explains : Explains (version_in (blocks_of image)) (tree_in (blocks_of image)) (trace_in events run.outcomes) list
   pub own : (history : List (EventOf Call Outside)) → IsOneOf image events run history
       → list ≡ list_of blocks_of never run.world history
   pub stops : (history : List (EventOf Call Outside)) → IsOneOf image events run history → (k : ℕ) → k ≤ length events
@@ -86,20 +86,22 @@ IsRefusedSo image events refused.Climbs = HasClimbed image events
 
 -- Why there is no list that explains this trace from this tree. A reply in it found no room, or none explains it
 -- though no path climbs; or the path of a call has the element ".."; or memory was refused.
-abbrev pub IsRefusedFor : TreeData → Trace → ExplainRefused → Type 0
-IsRefusedFor base t refused.NoMemory = Unit {0}
-IsRefusedFor base t (refused.Damaged d) = ⊥
-IsRefusedFor base t refused.FullSeen =
-    (any_full t.calls ≡ true) ⊎ ((any_climbs t.calls ≡ false) × ((list : List Placed) → Explains base t list → ⊥))
-IsRefusedFor base t refused.Climbs = (any_full t.calls ≡ false) × (any_climbs t.calls ≡ true)
+abbrev pub IsRefusedFor : Version → TreeData → Trace → ExplainRefused → Type 0
+IsRefusedFor version base t refused.NoMemory = Unit {0}
+IsRefusedFor version base t (refused.Damaged d) = ⊥
+IsRefusedFor version base t refused.FullSeen =
+    (any_full t.calls ≡ true) ⊎ ((any_climbs t.calls ≡ false) × ((list : List Placed) → Explains version base t list → ⊥))
+IsRefusedFor version base t refused.Climbs = (any_full t.calls ≡ false) × (any_climbs t.calls ≡ true)
 
 -- Why a keeper's list isn't handed out: it knows of a step without room; or it knows of none, and no list explains the trace.
-abbrev pub IsRefusedBy : Option KeptTree → TreeData → Trace → ExplainRefused → Type 0
-IsRefusedBy o base t why = (SawNoRoom o × (why ≡ refused.FullSeen)) ⊎ (SawRoom o × KnowsWhy o why × IsRefusedFor base t why)
+abbrev pub IsRefusedBy : Version → Option KeptTree → TreeData → Trace → ExplainRefused → Type 0
+IsRefusedBy version o base t why =
+    (SawNoRoom o × (why ≡ refused.FullSeen)) ⊎ (SawRoom o × KnowsWhy o why × IsRefusedFor version base t why)
 
 -- a list that explains the trace from the tree, or why there is none
-abbrev pub IsFoundFor : Option KeptTree → TreeData → Trace → Result (Vec Placed Global) ExplainRefused → Type 0
-IsFoundFor o base t found = MatchResult found (λ v. SawRoom o × Explains base t v.items) (λ why. IsRefusedBy o base t why)
+abbrev pub IsFoundFor : Version → Option KeptTree → TreeData → Trace → Result (Vec Placed Global) ExplainRefused → Type 0
+IsFoundFor version o base t found =
+    MatchResult found (λ v. SawRoom o × Explains version base t v.items) (λ why. IsRefusedBy version o base t why)
 
 -- the refusal for a mount in memory that was refused
 abbrev pub refused_by : MountFault → ExplainRefused

@@ -1,7 +1,7 @@
 -- What a keeper has, and what of it is handed out.
 use Rattle.std.specs.Prelude.{◌≡◌, List, Option, Some, None, Bool, true, false}
 use Rattle.kept_histories.specs.Keeps.{KeepsEvent}
-use Rattle.explain.specs.Vocabulary.{Explains, Placed, Trace, TreeData, Heard, Came, Event, KeptTree}
+use Rattle.explain.specs.Vocabulary.{Explains, Placed, Trace, TreeData, Heard, Came, Event, KeptTree, Version}
 use Rattle.explain.specs.declared.refused.ExplainRefused.{ExplainRefused}
 use Rattle.explain.specs.declared.refused.ExplainRefused.TheVariants as refused
 
@@ -34,9 +34,9 @@ KnowsWhy None refused.Climbs = ⊥
 KnowsWhy (Some k) why = Unit {0}
 
 -- if what was kept explains the trace, just that is handed out
-abbrev pub HandsOut : Option KeptTree → TreeData → Trace → List Placed → Type 0
-HandsOut None base t list = ⊥
-HandsOut (Some k) base t list = Explains base t k.list → list ≡ k.list
+abbrev pub HandsOut : Version → Option KeptTree → TreeData → Trace → List Placed → Type 0
+HandsOut version None base t list = ⊥
+HandsOut version (Some k) base t list = Explains version base t k.list → list ≡ k.list
 
 -- it has noted the event, or has nothing after it
 abbrev pub HasNoted : Option KeptTree → Event → Came → Option Heard → Option KeptTree → Type 0

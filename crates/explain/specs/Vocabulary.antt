@@ -7,7 +7,9 @@ pub use Rattle.std.specs.declared.alloc.Global.{Global}
 pub use Rattle.hart_core.specs.Harts.{HartsOf}
 pub use Rattle.hart_core.specs.Worlds.{WorldOf}
 pub use Rattle.hart_core.specs.declared.events.Came.{Came}
-pub use Rattle.image_tree.specs.VersionOne.{IsFirstDamage}
+pub use Rattle.image_tree.specs.Images.{IsFirstDamage}
+pub use Rattle.image_versions.specs.declared.version.Version.{Version}
+pub use Rattle.fs_layout.specs.Recovered.{version_in}
 pub use Rattle.image_tree.specs.Faults.{damage_name, damage_number}
 pub use Rattle.plain_tree.specs.declared.refused.NoMemory.{NoMemory}
 pub use Rattle.tree_histories.specs.Told.{any_climbs, any_full}

@@ -19,18 +19,19 @@ use tree_histories::{any_climbs, any_full, find_history, hints_of, replays};
 // more takes less time than `check`, which goes through the list for each call.
 fn kept_or_found(
     alloc: Global,
+    version: Version,
     base: &Tree,
     trace: &Trace,
     kept: Vec<Placed>,
 ) -> Result<Option<Vec<Placed>>, NoMemory>
-    ensures found { IsFound base.now trace.now result }
-    ensures kept { Explains base.now trace.now kept.items → IfOk result (λ o. MatchOption o ⊥ (λ v. v.items ≡ kept.items)) }
+    ensures found { IsFound version base.now trace.now result }
+    ensures kept { Explains version base.now trace.now kept.items → IfOk result (λ o. MatchOption o ⊥ (λ v. v.items ≡ kept.items)) }
 {
-    if replays(alloc, base, trace, &kept)? || check(alloc, Version::One, base, trace, &kept)? {
+    if replays(alloc, version, base, trace, &kept)? || check(alloc, version, base, trace, &kept)? {
         return Ok(Some(kept));
     }
     let hints = hints_of(alloc, &kept)?;
-    find_history(alloc, base, trace, &hints)
+    find_history(alloc, version, base, trace, &hints)
 }
 
 /// Mounts a copy of the image in memory, runs these events, and hands out a list of tree steps that explains what
@@ -50,29 +51,31 @@ pub fn explain(alloc: Global, image: &[u8], events: &[Event]) -> Result<Vec<Plac
     ensures { MatchResult result (λ v. OwnsRun image.now events.now v.items) (λ e. IsRefusedSo image.now events.now e) }
 {
     let Played {
+        version,
         base,
         outcomes,
         keeper,
     } = play(alloc, image, events)?;
-    explain_noted(alloc, &base, events, &outcomes, keeper)
+    explain_noted(alloc, version, &base, events, &outcomes, keeper)
 }
 
 /// The same of events that were noted as they were made of a mounted world, with the outcome of each; the world isn't
-/// run again. `base` is the tree of the image that was mounted, and the keeper must have noted each event, and the
-/// end.
+/// run again. `base` is the tree of the image that was mounted, one of this version, and the keeper must have noted
+/// each event, and the end.
 ///
 /// Whatever is passed, a list that is handed out explains these events and outcomes from this tree: it is the
 /// keeper's, if that explains them. With another keeper it may take long. 71 also if the keeper knows of a step
 /// without room.
 pub fn explain_noted(
     alloc: Global,
+    version: Version,
     base: &Tree,
     events: &[Event],
     outcomes: &[Came],
     keeper: Keeper,
 ) -> Result<Vec<Placed>, ExplainRefused>
-    ensures found { IsFoundFor keeper base.now (trace_in events.now outcomes.now) result }
-    ensures kept { IfOk result (λ v. HandsOut keeper base.now (trace_in events.now outcomes.now) v.items) }
+    ensures found { IsFoundFor version keeper base.now (trace_in events.now outcomes.now) result }
+    ensures kept { IfOk result (λ v. HandsOut version keeper base.now (trace_in events.now outcomes.now) v.items) }
     ensures flat { IfOk result (λ _. any_climbs (trace_in events.now outcomes.now).calls ≡ false) }
 {
     if keeper.is_full() {
@@ -90,7 +93,7 @@ pub fn explain_noted(
     if any_climbs(trace.calls.as_slice()) {
         return Err(ExplainRefused::Climbs);
     }
-    match kept_or_found(alloc, base, &trace, kept) {
+    match kept_or_found(alloc, version, base, &trace, kept) {
         Ok(Some(list)) => Ok(list),
         Ok(None) => Err(ExplainRefused::FullSeen),
         Err(NoMemory) => Err(ExplainRefused::NoMemory),

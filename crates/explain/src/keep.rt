@@ -7,6 +7,7 @@ ghost use Rattle.explain.specs.Telling.{TellsKeeper};
 ghost use Rattle.explain.specs.Vocabulary.{ended, fault_of, nothing_kept};
 
 use hart_core::{Came, Event, Observer, Outcome, find_fault};
+use image_versions::Version;
 use path_walk::Heard;
 use plain_tree::{Call, NoMemory, Placed, Tree};
 use std::alloc::{AllocError, Global};
@@ -34,13 +35,13 @@ impl Model for Keeper {
 }
 
 impl Keeper {
-    /// Beside a run that begins with this tree.
-    pub fn new(alloc: Global, base: &Tree) -> Result<Keeper, NoMemory>
-        ensures { IfOk result (λ k. k ≡ Some (nothing_kept base.now)) }
+    /// Beside a run that begins with this tree, on an image of this version.
+    pub fn new(alloc: Global, version: Version, base: &Tree) -> Result<Keeper, NoMemory>
+        ensures { IfOk result (λ k. k ≡ Some (nothing_kept version base.now)) }
     {
         Ok(Keeper {
             alloc,
-            kept: Kept::new(alloc, base.try_clone(alloc)?),
+            kept: Kept::new(alloc, version, base.try_clone(alloc)?),
             is_short: false,
         })
     }

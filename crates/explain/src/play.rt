@@ -1,6 +1,6 @@
 //! A run in memory.
 ghost use Rattle.std.specs.Prelude.{◌≡◌, IfOk, MatchResult};
-ghost use Rattle.explain.specs.Vocabulary.{blocks_of, fault_count_of, tree_in};
+ghost use Rattle.explain.specs.Vocabulary.{blocks_of, fault_count_of, tree_in, version_in};
 ghost use Rattle.explain.specs.Explained.{IsRefusedMount, StartsOn, refused_by};
 ghost use Rattle.explain.specs.Played.{IsPlayed};
 
@@ -8,14 +8,15 @@ use crate::keep::{Keeper, Telling};
 use crate::refused::ExplainRefused;
 use block_device::MemoryDisk;
 use hart_core::{Came, Event, Run, World, run_noted};
-use image_tree::{MountFault, tree_of};
+use image_tree::{MountFault, find_version, tree_of};
 use image_versions::Version;
 use plain_tree::Tree;
 use std::alloc::{AllocError, Global};
 
-/// The tree of an image, the outcomes of events on it, and what was kept beside them.
+/// The version of an image, its tree, the outcomes of events on it, and what was kept beside them.
 #[derive(Drop)]
 pub(crate) struct Played {
+    pub(crate) version: Version,
     pub(crate) base: Tree,
     pub(crate) outcomes: Vec<Came>,
     pub(crate) keeper: Keeper,
@@ -40,19 +41,23 @@ fn refusal(fault: MountFault) -> ExplainRefused
     }
 }
 
-// The image's tree.
-fn base_of(alloc: Global, image: &[u8]) -> Result<Tree, ExplainRefused>
-    ensures { MatchResult result (λ t. t ≡ tree_in (blocks_of image.now)) (λ e. IsRefusedMount image.now e) }
+// The image's version, and its tree.
+fn base_of(alloc: Global, image: &[u8]) -> Result<(Version, Tree), ExplainRefused>
+    ensures { MatchResult result
+        (λ found. (found.0 ≡ version_in (blocks_of image.now)) × (found.1 ≡ tree_in (blocks_of image.now)))
+        (λ e. IsRefusedMount image.now e) }
 {
     let Ok(disk) = disk(alloc, image) else {
         return Err(ExplainRefused::NoMemory);
     };
     let mut disk = disk;
-    let base = match tree_of(alloc, &mut disk, Version::One) {
-        Ok(base) => base,
-        Err(fault) => return Err(refusal(fault)),
+    let Ok(version) = find_version(&mut disk) else {
+        unreachable!();
     };
-    Ok(base)
+    match tree_of(alloc, &mut disk, version) {
+        Ok(base) => Ok((version, base)),
+        Err(fault) => Err(refusal(fault)),
+    }
 }
 
 // A world mounted on a copy of the image.
@@ -72,8 +77,8 @@ fn mounted(alloc: Global, image: &[u8]) -> Result<World<MemoryDisk>, ExplainRefu
 pub(crate) fn play(alloc: Global, image: &[u8], events: &[Event]) -> Result<Played, ExplainRefused>
     ensures { MatchResult result (λ p. IsPlayed image.now events.now p) (λ e. IsRefusedMount image.now e) }
 {
-    let base = base_of(alloc, image)?;
-    let Ok(keeper) = Keeper::new(alloc, &base) else {
+    let (version, base) = base_of(alloc, image)?;
+    let Ok(keeper) = Keeper::new(alloc, version, &base) else {
         return Err(ExplainRefused::NoMemory);
     };
     let mut telling = Telling {
@@ -94,6 +99,7 @@ pub(crate) fn play(alloc: Global, image: &[u8], events: &[Event]) -> Result<Play
             keeper.ends(world.lacks_place());
             let _disk = world.unmount();
             Ok(Played {
+                version,
                 base,
                 outcomes,
                 keeper,

@@ -6,7 +6,7 @@ pub use Rattle.fs_layout.proofs.Bitmaps.{changed_bit}
 pub use Rattle.fs_layout.proofs.Inodes.{dinode_at_is, dinode_of-spell, length-spell_dinode, spell-dinode_of, wrote}
 pub use Rattle.fs_layout.proofs.Numbers.{length-u32_bytes, length-u32s_at, length-u32s_bytes, u32s_at-more}
 pub use Rattle.fs_layout.proofs.Overwrites.{part-overwrite, put_mid-tail, record_at-overwrite, then_overwrite}
-pub use Rattle.fs_layout.proofs.Words.{front-overwrite, get_or-u32s_at, log_head_of-spell, numbers_in-spell, spell-log_head_of, spell-numbers_in, spell-super_of, super_of-spell, super_of-version, u32s_at-write, whole-overwrite}
+pub use Rattle.fs_layout.proofs.Words.{front-overwrite, get_or-u32s_at, log_head_of-spell, numbers_in-spell, spell-log_head_of, spell-numbers_in, spell-super_of, super_of-has, super_of-spell, super_of-version, u32s_at-write, whole-overwrite}
 pub use Rattle.std.proofs.Common.{SFits, rules, w16, w8}
 pub use Rattle.fs_layout.proofs.Entries.{any_name, dirent_of-spell, field-part, name_parts, number-part, others_stay, reads_back, spell-dirent_of, wrote_used}
 pub use Rattle.fs_layout.proofs.RecoveredDisk.{recovered-copy, recovered-own}

@@ -1,5 +1,5 @@
 -- What this crate's proofs speak of: its own definitions, and what the crates below and the library call things.
-pub use Rattle.fs_layout.specs.Vocabulary.{longest_name, AllByRecursion, Version, bit_at, block_at, cast_signed, cast_unsigned, dirent_len_of, flat_map, list_all, little_number, magic_of, name_len_of, option_map_or, position_or_len, version_of_magic, w16}
+pub use Rattle.fs_layout.specs.Vocabulary.{longest_name, AllByRecursion, One, Version, bit_at, block_at, cast_signed, cast_unsigned, dirent_len_of, flat_map, list_all, little_number, magic_of, name_len_of, option_map_or, position_or_len, unwrap_or, version_of_magic, w16}
 pub use Rattle.std.proofs.Common.{Bool, FitsSigned, IsSome, List, None, Option, Some, [], ap, append_assoc, arith, cond, drop, eqb, false, get_or, inl, inr, is_some, length, length-append, length-drop, length-set, nat_le, nat_lt, negsuc, not, pos, refl, replicate, set, suc, sym, take, true, zero, ℕ, ℤ, ⊎_elim, ◌%◌, ◌&&◌, ◌*◌, ◌++◌, ◌+◌, ◌-◌, ◌/◌, ◌<◌, ◌==◌, ◌^◌, ◌↔◌, ◌∙◌, ◌∷◌, ◌≡◌, ◌≢◌, ◌≤◌, ◌⊎◌}
 pub use Rattle.fs_layout.specs.Bytes.{IsBytes, i16_at, i16_bytes, overwrite, record_at}
 unfoldable pub use Rattle.fs_layout.specs.Bytes.{u16_at, u16_bytes, u32_at, u32_bytes, u32s_at}

@@ -1,5 +1,5 @@
 -- Records that are numbers of four bytes, one after the other: superblock, head of the log, indirect block.
-use Rattle.fs_layout.proofs.Vocabulary.{◌≡◌, ◌≢◌, ℕ, suc, ◌+◌, ◌*◌, ◌^◌, ◌<◌, ◌≤◌, nat_le, zero, true, false, cond, eqb, List, [], ◌∷◌, ◌++◌, length, drop, get_or, set, length-set, refl, sym, ap, ◌∙◌, ⊎_elim, arith, Some, None, Option, Bool, append-nil, ext_get_or, get_or-set_same, get_or-set_other, drop_all, cases_eq, eq-eqb, eqb-true, nat_tests, flat_map, AllByRecursion, Super, LogHead, overwrite, record_at, u32_bytes, u32_at, u32s_at, IsBytes, super_numbers, spell_super, super_fields, super_of, IsSuper, Version, magic_of, version_of_magic, IsSome, is_some, ◌↔◌, spell_log_head, head_numbers, log_head, log_head_of, numbers_in, spell_numbers}
+use Rattle.fs_layout.proofs.Vocabulary.{◌≡◌, ◌≢◌, ℕ, suc, ◌+◌, ◌*◌, ◌^◌, ◌<◌, ◌≤◌, nat_le, zero, true, false, cond, eqb, List, [], ◌∷◌, ◌++◌, length, drop, get_or, set, length-set, refl, sym, ap, ◌∙◌, ⊎_elim, arith, Some, None, Option, Bool, append-nil, ext_get_or, get_or-set_same, get_or-set_other, drop_all, cases_eq, eq-eqb, eqb-true, nat_tests, flat_map, AllByRecursion, Super, LogHead, overwrite, record_at, u32_bytes, u32_at, u32s_at, IsBytes, super_numbers, spell_super, super_fields, super_of, IsSuper, Version, One, magic_of, unwrap_or, version_of_magic, IsSome, is_some, ◌↔◌, spell_log_head, head_numbers, log_head, log_head_of, numbers_in, spell_numbers}
 use Rattle.image_versions.proofs.Places.{in_range, magics_tell, magics_only}
 use Rattle.fs_layout.proofs.Branches.{which_branch}
 use Rattle.fs_layout.proofs.Overwrites.{part-overwrite, record_at-overwrite}
@@ -17,27 +17,34 @@ eight : (bytes : List ℕ)
 unfolding u32s_at
 eight bytes = refl
 
-pub super_of-numbers : (v : Version) (bytes : List ℕ) (s : Super) → u32s_at 8 bytes 0 ≡ magic_of v ∷ super_numbers s → super_of v bytes ≡ Some s
-super_of-numbers v bytes s e =
+pub super_of-numbers : (v : Version) (bytes : List ℕ) (s : Super) → s.version ≡ v → u32s_at 8 bytes 0 ≡ magic_of v ∷ super_numbers s → super_of v bytes ≡ Some s
+super_of-numbers v bytes s same e =
     let at : (k : ℕ) → get_or (u32s_at 8 bytes 0) k 0 ≡ get_or (magic_of v ∷ super_numbers s) k 0 = (λ k. ap (λ (xs : List ℕ). get_or xs k 0) e) in
     let f : (k : ℕ) → get_or (u32_at bytes 0 ∷ u32_at bytes 4 ∷ u32_at bytes 8 ∷ u32_at bytes 12 ∷ u32_at bytes 16 ∷ u32_at bytes 20 ∷ u32_at bytes 24 ∷ u32_at bytes 28 ∷ []) k 0 ≡ get_or (magic_of v ∷ super_numbers s) k 0 =
     (λ k. ap (λ (xs : List ℕ). get_or xs k 0) (sym (eight bytes)) ∙ at k) in
-    rw (f 0, f 1, f 2, f 3, f 4, f 5, f 6, f 7, eq-eqb (magic_of v) (magic_of v) refl) refl
+    let says : unwrap_or (version_of_magic (magic_of v)) One ≡ s.version = ap (λ (o : Option Version). unwrap_or o One) (magics_tell v) ∙ sym same in
+    rw (f 0, f 1, f 2, f 3, f 4, f 5, f 6, f 7, eq-eqb (magic_of v) (magic_of v) refl, says) refl
 
-pub super_of-spell : (v : Version) (s : Super) (rest : List ℕ) → IsSuper s → super_of v (spell_super v s ++ rest) ≡ Some s
-super_of-spell v s rest h =
-    let m : magic_of v < 2 ^ 32 = (in_range v).7 in
-    super_of-numbers v (spell_super v s ++ rest) s (u32s_at-bytes (magic_of v ∷ super_numbers s) rest (m, h))
+pub super_of-spell : (s : Super) (rest : List ℕ) → IsSuper s → super_of s.version (spell_super s ++ rest) ≡ Some s
+super_of-spell s rest h =
+    let m : magic_of s.version < 2 ^ 32 = (in_range s.version).7 in
+    super_of-numbers s.version (spell_super s ++ rest) s refl (u32s_at-bytes (magic_of s.version ∷ super_numbers s) rest (m, h))
 
-pub spell-super_of : (v : Version) (bytes : List ℕ) (s : Super) → length bytes ≡ 32 → IsBytes bytes → super_of v bytes ≡ Some s → spell_super v s ≡ bytes
+-- the magic number of a version says it
+pub fields-version : (v : Version) (block : List ℕ) → u32_at block 0 ≡ magic_of v → (super_fields block).version ≡ v
+fields-version v block e =
+    ap (λ (magic : ℕ). unwrap_or (version_of_magic magic) One) e ∙ ap (λ (o : Option Version). unwrap_or o One) (magics_tell v)
+
+pub spell-super_of : (v : Version) (bytes : List ℕ) (s : Super) → length bytes ≡ 32 → IsBytes bytes → super_of v bytes ≡ Some s → spell_super s ≡ bytes
 spell-super_of v bytes s l fits h =
     ⊎_elim
     (λ (t : (eqb (u32_at bytes 0) (magic_of v) ≡ true) × (Some (super_fields bytes) ≡ Some s)).
     let is : s ≡ super_fields bytes = let e = t.1 in cc in
-    let first : magic_of v ≡ u32_at bytes 0 = sym (eqb-true (u32_at bytes 0) (magic_of v) t.0) in
-    let row : magic_of v ∷ super_numbers (super_fields bytes) ≡ u32s_at 8 bytes 0 =
+    let first : magic_of (super_fields bytes).version ≡ u32_at bytes 0 =
+    ap magic_of (fields-version v bytes (eqb-true (u32_at bytes 0) (magic_of v) t.0)) ∙ sym (eqb-true (u32_at bytes 0) (magic_of v) t.0) in
+    let row : magic_of (super_fields bytes).version ∷ super_numbers (super_fields bytes) ≡ u32s_at 8 bytes 0 =
     ap (λ (n : ℕ). n ∷ super_numbers (super_fields bytes)) first ∙ sym (eight bytes) in
-    ap (spell_super v) is ∙ ap (flat_map u32_bytes) row ∙ u32s_bytes-at 8 bytes 0 (omega arith) fits)
+    ap spell_super is ∙ ap (flat_map u32_bytes) row ∙ u32s_bytes-at 8 bytes 0 (omega arith) fits)
     (λ (f : (eqb (u32_at bytes 0) (magic_of v) ≡ false) × (None ≡ Some s)). let e = f.1 in cc)
     (which_branch (eqb (u32_at bytes 0) (magic_of v)) (Some (super_fields bytes)) None (Some s) h)
 
@@ -56,6 +63,16 @@ super_of-version v block =
       λ (tells : version_of_magic m ≡ Some v).
           ap (λ (b : Bool). is_some (cond b (Some (super_fields block)) None)) (eq-eqb m (magic_of v) (magics_only m v tells)),
     )
+
+-- a superblock that was read as a version's has that version
+pub super_of-has : (v : Version) (block : List ℕ) (s : Super) → super_of v block ≡ Some s → s.version ≡ v
+super_of-has v block s h =
+    ⊎_elim
+    (λ (t : (eqb (u32_at block 0) (magic_of v) ≡ true) × (Some (super_fields block) ≡ Some s)).
+    let is : s ≡ super_fields block = let e = t.1 in cc in
+    ap (λ (x : Super). x.version) is ∙ fields-version v block (eqb-true (u32_at block 0) (magic_of v) t.0))
+    (λ (f : (eqb (u32_at block 0) (magic_of v) ≡ false) × (None ≡ Some s)). let e = f.1 in cc)
+    (which_branch (eqb (u32_at block 0) (magic_of v)) (Some (super_fields block)) None (Some s) h)
 
 -- ---- the head of the log
 

@@ -1,6 +1,6 @@
 -- The disk as recovery leaves it. A disk is the list of its blocks, each the list of its bytes.
 use Rattle.std.specs.Prelude.{◌≡◌, ◌⊎◌, ℕ, ◌+◌, ◌<◌, ◌≤◌, ◌==◌, List, position}
-use Rattle.fs_layout.specs.Vocabulary.{option_map_or, block_at}
+use Rattle.fs_layout.specs.Vocabulary.{option_map_or, block_at, Version}
 use Rattle.fs_layout.specs.declared.superblock.Super.{Super}
 use Rattle.fs_layout.specs.Bytes.{u32_at}
 use Rattle.fs_layout.specs.Super.{super_fields}
@@ -10,6 +10,10 @@ use Rattle.fs_layout.specs.Widths.{super_block, log_head_count_at}
 -- the places of the disk's parts, as its superblock has them
 unfoldable pub sizes_of : List (List ℕ) → Super
 sizes_of disk = super_fields (block_at disk super_block)
+
+-- the version of its image, as its magic number says
+abbrev pub version_in : List (List ℕ) → Version
+version_in disk = (sizes_of disk).version
 
 -- the log's head
 abbrev pub log_head_at : List (List ℕ) → List ℕ

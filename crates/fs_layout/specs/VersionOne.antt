@@ -40,8 +40,5 @@ dirent_at place block = entries.dirent_at One place block
 abbrev pub IsDirent : Dirent → Type 0
 IsDirent d = entries.IsDirent One d
 
-abbrev pub spell_super : Super → List ℕ
-spell_super s = supers.spell_super One s
-
 abbrev pub super_of : List ℕ → Option Super
 super_of block = supers.super_of One block

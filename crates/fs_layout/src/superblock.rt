@@ -17,6 +17,8 @@ use image_versions::Version;
 /// are one: the examination of an image says whether they fit together, as a well-formed image has them.
 #[derive(Clone, Copy, PartialEq, Eq, Debug)]
 pub struct Super {
+    /// The version of the disk's image, as its magic number says.
+    pub version: Version,
     /// How many blocks the disk has: at most 8191 in a well-formed image.
     pub size: u32,
     /// How many of them are data blocks. An examination doesn't look at it.
@@ -48,6 +50,7 @@ pub fn read_super(version: Version, block: &Block) -> Option<Super>
         return None;
     }
     Some(Super {
+        version,
         size: u32_in(block, SUPER_SIZE_AT),
         nblocks: u32_in(block, SUPER_NBLOCKS_AT),
         ninodes: u32_in(block, SUPER_NINODES_AT),
@@ -58,14 +61,14 @@ pub fn read_super(version: Version, block: &Block) -> Option<Super>
     })
 }
 
-/// Writes the version's magic number and the fields. The bytes after them stay: begin with a block of zeros if they
-/// must be zero.
-pub fn write_super(version: Version, block: &mut Block, superblock: &Super)
-    ensures bytes { block.new ≡ overwrite block.old super_magic_at (spell_super version superblock.now) }
-    ensures reads_back { super_of version block.new ≡ Some superblock.now }
+/// Writes the magic number of its version, and the fields. The bytes after them stay: begin with a block of zeros if
+/// they must be zero.
+pub fn write_super(block: &mut Block, superblock: &Super)
+    ensures bytes { block.new ≡ overwrite block.old super_magic_at (spell_super superblock.now) }
+    ensures reads_back { super_of superblock.now.version block.new ≡ Some superblock.now }
 {
     let numbers = [
-        version.magic(),
+        superblock.version.magic(),
         superblock.size,
         superblock.nblocks,
         superblock.ninodes,
@@ -80,9 +83,10 @@ pub fn write_super(version: Version, block: &mut Block, superblock: &Super)
 /// A superblock and its bytes determine each other, and other bytes are none. Its magic number says which version's
 /// it is.
 pub fn super_spelling()
-    ensures reads_back { (v : Version) (s : Super) → IsSuper s → super_of v (spell_super v s) ≡ Some s }
+    ensures reads_back { (s : Super) → IsSuper s → super_of s.version (spell_super s) ≡ Some s }
     ensures only { (v : Version) (bytes : List ℕ) (s : Super) → length bytes ≡ super_len → IsBytes bytes
-        → super_of v bytes ≡ Some s → spell_super v s ≡ bytes }
+        → super_of v bytes ≡ Some s → spell_super s ≡ bytes }
+    ensures of_version { (v : Version) (block : List ℕ) (s : Super) → super_of v block ≡ Some s → s.version ≡ v }
     ensures version { (v : Version) (block : List ℕ)
         → IsSome (super_of v block) ↔ (version_of_magic (u32_at block super_magic_at) ≡ Some v) }
 {}

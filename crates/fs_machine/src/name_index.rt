@@ -3,7 +3,7 @@ ghost use Rattle.std.specs.Prelude.{◌≡◌, ◌<◌, ◌≤◌, ◌∷◌, �
 ghost use Rattle.fs_machine.specs.InMemory.{no_index};
 
 use arrayvec::ArrayVec;
-use image_versions::one::DIRENT_LEN;
+use image_versions::widths::LONGEST_DIRENT_LEN;
 use std::alloc::{AllocError, Global};
 use std::marker::Model;
 
@@ -15,8 +15,8 @@ pub const INDEXED_SLOTS: usize = 64;
 pub struct IndexedSlot {
     /// Its place, counted from the directory's first slot.
     pub place: u32,
-    /// Its bytes, as they are on the disk.
-    pub bytes: [u8; DIRENT_LEN],
+    /// Its bytes, as they are on the disk, and zeros after them.
+    pub bytes: [u8; LONGEST_DIRENT_LEN],
 }
 
 /// The used slots of a directory's first blocks, in their order. It has memory of its own, so that its owner moves

@@ -1,6 +1,6 @@
 -- What holds of every log.
 use Rattle.std.specs.Prelude.{◌≡◌, ◌≢◌, ◌⊎◌, ℕ, ◌+◌, ◌-◌, ◌<◌, ◌≤◌, ◌^◌, min, List, [], length, slice_index, Option, None}
-use Rattle.group_log.specs.Vocabulary.{Super, sizes_of, logged, IsOutsideLog, u32_at, super_block, super_magic_at, magic, block_at, count_of, SeatState, CacheState, is_pinned, seat_of, seen_in}
+use Rattle.group_log.specs.Vocabulary.{Super, sizes_of, logged, IsOutsideLog, u32_at, super_block, super_magic_at, magic_of, block_at, count_of, SeatState, CacheState, is_pinned, seat_of, seen_in}
 use Rattle.group_log.specs.declared.limits.TheConstants.{MOST_LOGGED, PLACES}
 use Rattle.group_log.specs.declared.phase.Phase.{Phase}
 use Rattle.group_log.specs.declared.phase.Phase.TheVariants.{Open, Staging, Installing, Halted}
@@ -28,7 +28,7 @@ pub record IsPlaced (disk : List (List ℕ)) (sizes : Super) : Type 0 where
   pub within : sizes.logstart + sizes.nlog ≤ length disk
   pub counted : length disk < 2 ^ 32
   -- and before the inodes, on a disk that has the superblock's sign and all its blocks
-  pub is_super : u32_at (block_at disk super_block) super_magic_at ≡ magic
+  pub is_super : u32_at (block_at disk super_block) super_magic_at ≡ magic_of sizes.version
   pub inodes : sizes.logstart + sizes.nlog ≤ sizes.inodestart
   pub sized : sizes.size ≤ length disk
 

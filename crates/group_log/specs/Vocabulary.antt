@@ -11,6 +11,6 @@ pub use Rattle.buffer_cache.specs.declared.limits.TheConstants.{HARTS}
 pub use Rattle.fs_layout.specs.Bytes.{overwrite}
 unfoldable pub use Rattle.fs_layout.specs.Bytes.{u32_at}
 pub use Rattle.fs_layout.specs.LogHead.{spell_log_head}
-pub use Rattle.fs_layout.specs.VersionOne.{magic}
+pub use Rattle.fs_layout.specs.Vocabulary.{magic_of}
 pub use Rattle.fs_layout.specs.Widths.{block_len, log_head_count_at, super_block, super_magic_at}
 pub use Rattle.std.specs.Option.{MatchOption, unwrap_or}

@@ -1,5 +1,5 @@
 -- Starts that were refused, as events that ask for no call: a run goes on as before without them.
-use Rattle.hart_core.proofs.Vocabulary.{◌≡◌, ◌≢◌, ℕ, Bool, true, false, Option, Some, None, List, [], ◌∷◌, if◌then◌else◌, refl, sym, ◌∙◌, ap, subst, nat_eq, eqb-true, Call, call_climbs, Shown, Begun, Replied, Other, Marks, Ret, Do, ExecResult, Waits, Ran, Stops, PartOf as P, OpWithAnswer, own, Theory, Began, Refuses, Begins, Run, State, EventOf as Event, Start, Step, Made, Refused, WasIdle, HonestStep, IsHonest, AllHonest, changed, told, all_told, unchanged, moved, tried, step_prog, step_unless, step_run, begun, start_run, makes, next, run, noted, MoveMachine, theory_of, shown_by, climbs_at, StartsBy, Alone, shows}
+use Rattle.hart_core.proofs.Vocabulary.{◌≡◌, ◌≢◌, ℕ, Bool, true, false, Option, Some, None, List, [], ◌∷◌, if◌then◌else◌, refl, sym, ◌∙◌, ap, subst, nat_eq, eqb-true, Version, Call, call_climbs, Shown, Begun, Replied, Other, Marks, Ret, Do, ExecResult, Waits, Ran, Stops, PartOf as P, OpWithAnswer, own, Theory, Began, Refuses, Begins, Run, State, EventOf as Event, Start, Step, Made, Refused, WasIdle, HonestStep, IsHonest, AllHonest, changed, told, all_told, unchanged, moved, tried, step_prog, step_unless, step_run, begun, start_run, makes, next, run, noted, MoveMachine, theory_of, shown_by, climbs_at, StartsBy, Alone, shows}
 use Rattle.atomic_programs.specs.Calls.{busy_in}
 use Rattle.inode_machine.specs.MoveCalls.{NoneClimbs}
 
@@ -60,9 +60,9 @@ module _ (L : Theory) (g : ℕ) (refused : (call : L.Call) (busy : ℕ → Bool)
   stays_idle (Step h x) s none = step_stays h x s (s.running h) refl none
 
 -- In place of a refused start, a step of that hart.
-module _ (N : MoveMachine) (g : ℕ) (refused : (call : Call) (busy : ℕ → Bool) (w u : N.World) → N.start g call busy w ≡ Begins u → ⊥) (x : N.Outside) where
+module _ (v : Version) (N : MoveMachine) (g : ℕ) (refused : (call : Call) (busy : ℕ → Bool) (w u : N.World) → N.start g call busy w ≡ Begins u → ⊥) (x : N.Outside) where
   abbrev L : Theory
-  L = theory_of N
+  L = theory_of v N
 
   -- an event that asks for a call only if one was started, and leads to the same state as e
   pub record Calms (e : Event Call N.Outside) (s : State L) (made : Made L) : Type 0 where
@@ -115,9 +115,9 @@ module _ (N : MoveMachine) (g : ℕ) (refused : (call : Call) (busy : ℕ → Bo
     pub events : List (Event Call N.Outside)
     pub after : run L events s ≡ run L es s
     pub honest : AllHonest L es s → AllHonest L events s
-    pub shown : shows N events s ≡ shows N es s
-    pub climbs : AllStarted (λ h call. call_climbs call ≡ false) (shows N es s) → NoneClimbs events
-    pub alone : (h : ℕ) → AllStarted (λ k call. k ≡ h) (shows N es s) → Alone h events
+    pub shown : shows v N events s ≡ shows v N es s
+    pub climbs : AllStarted (λ h call. call_climbs call ≡ false) (shows v N es s) → NoneClimbs events
+    pub alone : (h : ℕ) → AllStarted (λ k call. k ≡ h) (shows v N es s) → Alone h events
     pub notes : (note : State L → State L → Marks → Marks) (m : Marks) → noted L note events s m ≡ noted L note es s m
 
   pub calmed : (es : List (Event Call N.Outside)) (s : State L) → s.running g ≡ None → Calmed es s
@@ -129,7 +129,7 @@ module _ (N : MoveMachine) (g : ℕ) (refused : (call : Call) (busy : ℕ → Bo
         events = c.event ∷ rest.events;
         after = ap (run L rest.events) c.after ∙ rest.after;
         honest = λ a. (c.honest a.0, subst (AllHonest L rest.events) (sym c.after) (rest.honest a.1));
-        shown = (λ i. c.shown i ∷ shows N rest.events (c.after i)) ∙ ap (λ (z : List Shown). shown_by e (makes L e s).came ∷ z) rest.shown;
+        shown = (λ i. c.shown i ∷ shows v N rest.events (c.after i)) ∙ ap (λ (z : List Shown). shown_by e (makes L e s).came ∷ z) rest.shown;
         climbs = λ a. (c.climbs a.0, rest.climbs a.1);
         alone = λ h a. (c.alone h a.0, rest.alone h a.1);
         notes = λ note m. (λ i. noted L note rest.events (c.after i) (note s (c.after i) m)) ∙ rest.notes note (note s (next L e s) m);

@@ -1,5 +1,5 @@
 -- Runs: one event more; and of a mounted world, the list of tree steps that explains them.
-use Rattle.hart_core.proofs.Vocabulary.{◌≡◌, ◌⊎◌, inl, inr, ◌<◌, ◌≤◌, ◌+◌, min, ℕ, zero, Bool, true, false, nat_lt, Some, None, List, [], ◌∷◌, ◌++◌, length, suc, get_or, take, map, ◌==◌, ◌&&◌, refl, sym, ◌∙◌, ap, subst, if◌then◌else◌, arith, All, take_more, length-take, All-head, All-tail, All-cons, All-nil, Super, sizes_of, tree_in, Reply, Call, put, Trace, TracedCall, call_climbs, Shown, Explains, ends_at, no_calls, trace_from, trace_of, Begun, Replied, Other, is_nothing, TreeData, Theory, Begins, State, EventOf, Start, Step, OutcomeOf, Started, Refused, WasIdle, DidWait, DidRun, DidEnd, DidStop, WasStopped, EventOutcome, AllHonest, asked, all_asked, with_answer, fresh, makes, next, outcomes, run, Code, Plain, PlainMade, PlainHonest, plain_makes, plain_run, plain_outcomes, by_kind, all_by_kind, erase, erase-makes, erase-outcomes, plain_run-more, begun_both, honest_event, Kind, Outside, Passes, Both, began_to, shown_by, shows, HasOneHistory, Refusal, block_moves, first, RunsOn, World, begins, block_calls, block_code, child_of, served_calls, one_history, one_hart, is_code, begun_here, Event, Came, Outcome, event_of, came_of, HartsOf, outcome_of, Rests, events_of, outcomes_of, shown, shown_outcome, all_shown, trace_in, AllAnswer, IsHistory, HasHistory, NoneClimbs, OneHart, OneHistory, WorldOf, calls_of, Makes, Answers}
+use Rattle.hart_core.proofs.Vocabulary.{◌≡◌, ◌⊎◌, inl, inr, ◌<◌, ◌≤◌, ◌+◌, min, ℕ, zero, Bool, true, false, nat_lt, Some, None, List, [], ◌∷◌, ◌++◌, length, suc, get_or, take, map, ◌==◌, ◌&&◌, refl, sym, ◌∙◌, ap, subst, if◌then◌else◌, arith, All, take_more, length-take, All-head, All-tail, All-cons, All-nil, Super, Version, version_in, sizes_of, tree_in, Reply, Call, put, Trace, TracedCall, call_climbs, Shown, Explains, ends_at, no_calls, trace_from, trace_of, Begun, Replied, Other, is_nothing, TreeData, Theory, Begins, State, EventOf, Start, Step, OutcomeOf, Started, Refused, WasIdle, DidWait, DidRun, DidEnd, DidStop, WasStopped, EventOutcome, AllHonest, asked, all_asked, with_answer, fresh, makes, next, outcomes, run, Code, Plain, PlainMade, PlainHonest, plain_makes, plain_run, plain_outcomes, by_kind, all_by_kind, erase, erase-makes, erase-outcomes, plain_run-more, begun_both, honest_event, Kind, Outside, Passes, Both, began_to, shown_by, shows, HasOneHistory, Refusal, block_moves, first, RunsOn, World, begins, block_calls, block_code, child_of, served_calls, one_history, one_hart, is_code, begun_here, Event, Came, Outcome, event_of, came_of, HartsOf, outcome_of, Rests, events_of, outcomes_of, shown, shown_outcome, all_shown, trace_in, AllAnswer, IsHistory, HasHistory, NoneClimbs, OneHart, OneHistory, WorldOf, calls_of, Makes, Answers}
 use Rattle.plain_tree.specs.Explains.{noted}
 use Rattle.plain_tree.specs.Widths.{hart_count}
 use Rattle.inode_machine.specs.World as above
@@ -147,7 +147,7 @@ module _ (sizes : Super) where
   kind_same (Start h call) o = kind_start h call o
   kind_same (Step h x) o = kind_step h x o
 
-  shows_are : (es : List (EventOf Call Outside)) (s : State (block_calls sizes)) → shows (block_moves sizes) es s ≡ zipped (all_asked es) (all_by_kind (block_calls sizes) (block_code sizes) (outcomes (block_calls sizes) es s))
+  shows_are : (es : List (EventOf Call Outside)) (s : State (block_calls sizes)) → shows sizes.version (block_moves sizes) es s ≡ zipped (all_asked es) (all_by_kind (block_calls sizes) (block_code sizes) (outcomes (block_calls sizes) es s))
   shows_are [] s = refl
   shows_are (e ∷ es) s = λ i. kind_same e (makes (block_calls sizes) e s).came i ∷ shows_are es (next (block_calls sizes) e s) i
 
@@ -162,7 +162,7 @@ module _ (sizes : Super) where
   pub none_past : (call : Call) (busy : ℕ → Bool) (w u : Both World above.World) → (block_calls sizes).start 8 call busy w ≡ Begins u → ⊥
   none_past call busy w u e =
       let t : World = record (w.real) { children = put w.real.children 8 (child_of call) } in
-      let b = begun_both (began_to w.seen (served_calls.start 8 call busy w.seen)) (begins sizes 8 call busy w.real) u e in
+      let b = begun_both (began_to w.seen ((served_calls sizes.version).start 8 call busy w.seen)) (begins sizes 8 call busy w.real) u e in
       let here : nat_lt 8 hart_count ≡ true = (begun_here 8 call busy (shared_of w.real) t u.real b.0).hart in
       cc
 
@@ -214,7 +214,7 @@ module _ {D : Type 0} (contents : D → List (List ℕ)) (failures : D → ℕ) 
   start = fresh L (first disk count)
 
   module _ (events : List Event) (cs : List Came) (new : HartsOf D) (history : List (EventOf Call Outside)) (is : IsHistory contents failures (sizes_of disk) w events cs new history) (clean : L.M.Clean (run L history start).world) where
-    pub shown_is : shows (block_moves (sizes_of disk)) history start ≡ all_shown events cs
+    pub shown_is : shows (version_in disk) (block_moves (sizes_of disk)) history start ≡ all_shown events cs
     shown_is =
         shows_are (sizes_of disk) history start
         ∙ (λ i. zipped (is.asks i) ((sym (erase-outcomes L (block_code (sizes_of disk)) (is_code (sizes_of disk)) history start) ∙ ap (plain_outcomes L (block_code (sizes_of disk)) history) (rests_erased contents failures device w rests) ∙ is.comes_to) i))
@@ -223,33 +223,34 @@ module _ {D : Type 0} (contents : D → List (List ℕ)) (failures : D → ℕ) 
     honest : AllHonest L history start
     honest = all_honest (sizes_of disk) history start (subst (AllAnswer (sizes_of disk) history) (sym (rests_erased contents failures device w rests)) is.answers)
 
-    pub calm : Calmed (block_moves (sizes_of disk)) 8 (none_past (sizes_of disk)) Passes history start
-    calm = calmed (block_moves (sizes_of disk)) 8 (none_past (sizes_of disk)) Passes history start refl
+    pub calm : Calmed (version_in disk) (block_moves (sizes_of disk)) 8 (none_past (sizes_of disk)) Passes history start
+    calm = calmed (version_in disk) (block_moves (sizes_of disk)) 8 (none_past (sizes_of disk)) Passes history start refl
 
     pub runs : RunsOn disk count calm.events
     runs = record { mountable = mountable contents failures device w rests; honest = calm.honest honest; clean = subst (λ (s : State L). L.M.Clean s.world) (sym calm.after) clean }
 
-    pub started : (Q : ℕ → Call → Type 0) → All (λ (c : TracedCall). Q c.hart c.call) (trace_in events cs).calls → AllStarted Q (shows (block_moves (sizes_of disk)) history start)
+    pub started : (Q : ℕ → Call → Type 0) → All (λ (c : TracedCall). Q c.hart c.call) (trace_in events cs).calls → AllStarted Q (shows (version_in disk) (block_moves (sizes_of disk)) history start)
     started Q a = subst (AllStarted Q) (sym shown_is) (started_in Q (all_shown events cs) no_calls a).1
 
-    one : NoneClimbs (trace_in events cs) ⊎ OneHart (trace_in events cs) → HasOneHistory (block_moves (sizes_of disk)) (tree_in disk) (first disk count) calm.events
+    one : NoneClimbs (trace_in events cs) ⊎ OneHart (trace_in events cs) → HasOneHistory (version_in disk) (block_moves (sizes_of disk)) (tree_in disk) (first disk count) calm.events
     one (inl a) = one_history disk count calm.events runs (calm.climbs (started (λ h call. call_climbs call ≡ false) a))
     one (inr a) = one_hart disk count a.0 calm.events runs (calm.alone a.0 (started (λ k call. k ≡ a.0) a.1))
 
-    explained_here : NoneClimbs (trace_in events cs) ⊎ OneHart (trace_in events cs) → IsExplained (tree_in (contents device)) (trace_in events cs)
+    explained_here : NoneClimbs (trace_in events cs) ⊎ OneHart (trace_in events cs) → IsExplained (version_in disk) (tree_in (contents device)) (trace_in events cs)
     explained_here a =
         let o = one a in (
           o.list,
-          subst (λ (base : TreeData). Explains base (trace_in events cs) o.list) rests.disk.tree
-              (subst (λ (ss : List Shown). Explains (tree_in disk) (trace_of ss) o.list) (calm.shown ∙ shown_is) o.explains),
+          subst (λ (base : TreeData). Explains (version_in disk) base (trace_in events cs) o.list) rests.disk.tree
+              (subst (λ (ss : List Shown). Explains (version_in disk) (tree_in disk) (trace_of ss) o.list) (calm.shown ∙ shown_is) o.explains),
         )
 
 pub explained : {D : Type 0} (contents : D → List (List ℕ)) (failures : D → ℕ) (w : WorldOf D) (events : List Event) (cs : List Came) (new : HartsOf D) → OneHistory contents failures w events cs new
 explained contents failures w events cs new device history mounted is clean a =
     let disk : List (List ℕ) = contents w.harts.core.log.cache.device in
     let same : w.sizes ≡ sizes_of disk = mounted.sizes ∙ sym mounted.rests.disk.sizes in
-    explained_here contents failures device w.harts mounted.rests events cs new history (subst (λ (s : Super). IsHistory contents failures s w.harts events cs new history) same is)
-    (subst (λ (s : Super). (block_calls s).M.Clean (run (block_calls s) history (fresh (block_calls s) (first disk (failures w.harts.core.log.cache.device)))).world) same clean) a
+    subst (λ (v : Version). IsExplained v (tree_in (contents device)) (trace_in events cs)) (ap (λ (s : Super). s.version) (sym same))
+    (explained_here contents failures device w.harts mounted.rests events cs new history (subst (λ (s : Super). IsHistory contents failures s w.harts events cs new history) same is)
+    (subst (λ (s : Super). (block_calls s).M.Clean (run (block_calls s) history (fresh (block_calls s) (first disk (failures w.harts.core.log.cache.device)))).world) same clean) a)
 
 -- ---- traces
 

@@ -1,6 +1,6 @@
 -- What the proofs of this crate's functions use: its lemmas, and what they speak of.
 pub use Rattle.hart_core.proofs.Vocabulary.{Answers, AreHarts, AreUnfinished, DidRun, Event, HartsOf, Heard, HasMarks, IdleHartsHaveNothing, IsWellFormed, List, Makes, MayStep, None, Option, Outcome, Passes, PlainHonest, QuietBlocksAreAnImage, RunLeavesABeginning, Running, Some, Start, Started, Step, StepsAt, Super, WaitsByTheRule, WasIdle, WorldOf, [], ap, append_assoc, arith, block_calls, blocks, busy_in, came_of, children_in, code, ends_at, event_of, false, file_named, get_or, hart_step, is_some, last_of, length, marks_told, outcome_of, plain, plain_makes, program_at, programs_of, refl, refusal_of, set, set-set, shared_of, slice_get, slice_set, state_of, subst, sym, take, trace_in, true, with_answer, ℕ, ◌&&◌, ◌++◌, ◌+◌, ◌-◌, ◌∙◌, ◌∷◌, ◌≡◌, ◌≤◌}
-unfoldable pub use Rattle.hart_core.proofs.Vocabulary.{running_of, unfinished_from}
+unfoldable pub use Rattle.hart_core.proofs.Vocabulary.{running_of, sizes_of, unfinished_from}
 pub use Rattle.inodes_on_blocks.proofs.Vocabulary.{rules, slice_get_within}
 unfoldable pub use Rattle.inodes_on_blocks.proofs.Vocabulary.{any_below}
 pub use Rattle.hart_core.proofs.Refusals.{bytes_below, may_start}
@@ -12,8 +12,8 @@ pub use Rattle.std.specs.Vec.Iter.{into_iter_items, into_iter_len}
 pub use Rattle.atomic_programs.proofs.Tables.{honest_here, step_gives}
 pub use Rattle.hart_core.proofs.Histories.{explained, one_each, trace_next, trace_none, trace_whole}
 pub use Rattle.hart_core.proofs.Keeping.{idle_harts_have_nothing, quiet_blocks_are_an_image}
-pub use Rattle.hart_core.proofs.Lasting.{world_left}
-pub use Rattle.hart_core.proofs.Mounted.{handed_back, refused_memory, settled_so}
+pub use Rattle.hart_core.proofs.Lasting.{same_sizes, world_left}
+pub use Rattle.hart_core.proofs.Mounted.{handed_back, refused_memory, settled_so, sizes_so, tree_so, well_found, well_so}
 pub use Rattle.hart_core.proofs.Resting.{world_mounted}
 pub use Rattle.hart_core.proofs.RightCalls.{right_call}
 pub use Rattle.hart_core.proofs.Stopping.{first_marks, leaves_a_beginning, next_marks}

@@ -1,5 +1,5 @@
 -- What a stop leaves of a run.
-use Rattle.hart_core.proofs.Vocabulary.{◌≡◌, ◌⊎◌, inl, inr, ℕ, ◌+◌, ◌≤◌, false, List, [], ◌∷◌, ◌++◌, length, Some, take, refl, sym, ◌∙◌, ap, subst, arith, Super, sizes_of, tree_in, Call, call_climbs, Chain, Explains, IsNamedPart, Shown, trace_of, tree_of, TreeData, Marks, joined, is_point, no_marks, IsMarked, before, Theory, State, EventOf, AllHonest, fresh, next, run, with_answer, Code, Plain, PlainMade, plain_run, erase, erase-makes, erase-run, Outside, Passes, block_moves, first, block_calls, block_code, is_code, marks_told, at_point, noted, log_at, told_between, LeavesABeginning, disk_after, marks_at, stops_leave_a_beginning, one_hart_leaves_a_beginning, next_now, marks_of_mounts, Event, Came, event_of, came_of, HartsOf, Rests, trace_in, IsHistory, IsMounted, NoneClimbs, OneHart, last_of, doubt_of, HoldsABeginning, log_of, next_of, marks_in, HasMarks, marks_of, RunLeavesABeginning, WorldOf, calls_of, Makes, Answers}
+use Rattle.hart_core.proofs.Vocabulary.{◌≡◌, ◌⊎◌, inl, inr, ℕ, ◌+◌, ◌≤◌, false, List, [], ◌∷◌, ◌++◌, length, Some, take, refl, sym, ◌∙◌, ap, subst, arith, Super, Version, version_in, sizes_of, tree_in, Call, call_climbs, Chain, Explains, IsNamedPart, Shown, trace_of, tree_of, TreeData, Marks, joined, is_point, no_marks, IsMarked, before, Theory, State, EventOf, AllHonest, fresh, next, run, with_answer, Code, Plain, PlainMade, plain_run, erase, erase-makes, erase-run, Outside, Passes, block_moves, first, block_calls, block_code, is_code, marks_told, at_point, noted, log_at, told_between, LeavesABeginning, disk_after, marks_at, stops_leave_a_beginning, one_hart_leaves_a_beginning, next_now, marks_of_mounts, Event, Came, event_of, came_of, HartsOf, Rests, trace_in, IsHistory, IsMounted, NoneClimbs, OneHart, last_of, doubt_of, HoldsABeginning, log_of, next_of, marks_in, HasMarks, marks_of, RunLeavesABeginning, WorldOf, calls_of, Makes, Answers}
 use Rattle.hart_core.proofs.Calming.{Calmed}
 use Rattle.hart_core.proofs.Counts.{marked_by}
 use Rattle.hart_core.proofs.Histories.{no_history, history_more, long_history, none_past, calm, runs, shown_is, started}
@@ -82,7 +82,7 @@ module _ {D : Type 0} (contents : D → List (List ℕ)) (failures : D → ℕ) 
         ∙ ap (λ (p : Plain L C). marks_in sizes 0 history p no_marks) (rests_erased contents failures device w rests) ∙ e
 
     module _ (clean : L.M.Clean (run L history start).world) where
-      abbrev calmly : Calmed (block_moves sizes) 8 (none_past sizes) Passes history start
+      abbrev calmly : Calmed (version_in disk) (block_moves sizes) 8 (none_past sizes) Passes history start
       calmly = calm contents failures device w rests events cs new history is clean
 
       left : NoneClimbs (trace_in events cs) ⊎ OneHart (trace_in events cs) → LeavesABeginning disk count calmly.events
@@ -105,13 +105,13 @@ module _ {D : Type 0} (contents : D → List (List ℕ)) (failures : D → ℕ) 
           ∙ ap (λ (p : Plain L C). p.shared.state.log.contents) (sym (erase-run L C (is_code sizes) history start) ∙ ap (plain_run L C history) (rests_erased contents failures device w rests) ∙ is.makes)
 
       pub holds_here : (m : Marks) → marks_at disk count history ≡ m → NoneClimbs (trace_in events cs) ⊎ OneHart (trace_in events cs)
-          → HoldsABeginning (tree_in (contents device)) (trace_in events cs) (contents new.core.log.cache.device) (last_of m.cut) (doubt_of m.doubt)
+          → HoldsABeginning (version_in disk) (tree_in (contents device)) (trace_in events cs) (contents new.core.log.cache.device) (last_of m.cut) (doubt_of m.doubt)
       holds_here m e a =
           let l = left a in
           let same : marks_at disk count calmly.events ≡ m = marks_same ∙ e in
-          let explains : Explains (tree_in (contents device)) (trace_in events cs) l.history.list =
-          subst (λ (base : TreeData). Explains base (trace_in events cs) l.history.list) rests.disk.tree
-          (subst (λ (ss : List Shown). Explains (tree_in disk) (trace_of ss) l.history.list) (calmly.shown ∙ shown_is contents failures device w rests events cs new history is clean) l.history.explains) in
+          let explains : Explains (version_in disk) (tree_in (contents device)) (trace_in events cs) l.history.list =
+          subst (λ (base : TreeData). Explains (version_in disk) base (trace_in events cs) l.history.list) rests.disk.tree
+          (subst (λ (ss : List Shown). Explains (version_in disk) (tree_in disk) (trace_of ss) l.history.list) (calmly.shown ∙ shown_is contents failures device w rests events cs new history is clean) l.history.explains) in
           record {
             list = l.history.list;
             explains = explains;
@@ -120,7 +120,7 @@ module _ {D : Type 0} (contents : D → List (List ℕ)) (failures : D → ℕ) 
             rest = l.rest;
             begins = l.begins;
             tree = l.tree;
-            leads = subst (λ (base : TreeData). Chain (tree_of base) (before l.k l.history.list) l.tree) rests.disk.tree l.leads;
+            leads = subst (λ (base : TreeData). Chain (version_in disk) (tree_of base) (before l.k l.history.list) l.tree) rests.disk.tree l.leads;
             named = subst (λ (d : List (List ℕ)). IsNamedPart l.tree (tree_of (tree_in d))) disk_same l.named;
             returned = λ id c now reply at finished early. returned (trace_in events cs) l.k id c (now, reply) at finished early l.history.list explains.belongs;
           }
@@ -138,8 +138,9 @@ leaves_a_beginning {D} contents failures w events cs new m h = record {
   stored = λ device mounted i j hart reply at_i begun lt at_j done.
       stored_here contents failures device w.harts mounted.rests events cs new h.0 (is device mounted) m (marks device mounted) i j hart reply at_i begun lt at_j done;
   holds = λ device mounted clean a.
-      holds_here contents failures device w.harts mounted.rests events cs new h.0 (is device mounted)
-      (subst (λ (s : Super). (block_calls s).M.Clean (run (block_calls s) h.0 (fresh (block_calls s) (first disk (failures w.harts.core.log.cache.device)))).world) (same device mounted) clean) m (marks device mounted) a;
+      subst (λ (v : Version). HoldsABeginning v (tree_in (contents device)) (trace_in events cs) (contents new.core.log.cache.device) (last_of m.cut) (doubt_of m.doubt)) (ap (λ (s : Super). s.version) (sym (same device mounted)))
+      (holds_here contents failures device w.harts mounted.rests events cs new h.0 (is device mounted)
+      (subst (λ (s : Super). (block_calls s).M.Clean (run (block_calls s) h.0 (fresh (block_calls s) (first disk (failures w.harts.core.log.cache.device)))).world) (same device mounted) clean) m (marks device mounted) a);
 }
   where
     disk : List (List ℕ)

@@ -43,6 +43,7 @@ module _ {D : Type 0} (contents : D → List (List ℕ)) (failures : D → ℕ) 
   pub record HandsBack (device back : D) (fault : MountFault) : Type 0 where
     pub judges : JudgesFault (contents device) fault
     pub unwritten : fault ≢ DeviceFault → contents back ≡ contents device
+    pub sizes : sizes_of (contents back) ≡ sizes_of (contents device)
     pub well : IsWellFormed (contents device) → IsWellFormed (contents back)
     pub tree : IsWellFormed (contents device) → tree_in (contents back) ≡ tree_in (contents device)
     pub failures_are : failures back ≡ fault_count_of fault (failures device)

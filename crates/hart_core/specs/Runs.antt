@@ -1,7 +1,7 @@
 -- Lists of events: what they make of a world, what they show of calls, and the list of tree steps that explains it.
 use Rattle.std.specs.Prelude.{◌≡◌, ◌⊎◌, ℕ, false, List, [], ◌∷◌}
 use Rattle.std.specs.List.{All}
-use Rattle.hart_core.specs.Vocabulary.{Super, sizes_of, tree_in, Reply, Call, Placed, Trace, TracedCall, call_climbs, Shown, Explains, trace_of, Started, Replied, Other, TreeData, EventOf, OutcomeOf, all_asked, fresh, run, Plain, PlainHonest, plain_makes, plain_run, plain_outcomes, Kind, Outside, Refusal, first, block_calls, block_code}
+use Rattle.hart_core.specs.Vocabulary.{Super, Version, sizes_of, tree_in, Reply, Call, Placed, Trace, TracedCall, call_climbs, Shown, Explains, trace_of, Started, Replied, Other, TreeData, EventOf, OutcomeOf, all_asked, fresh, run, Plain, PlainHonest, plain_makes, plain_run, plain_outcomes, Kind, Outside, Refusal, first, block_calls, block_code}
 use Rattle.hart_core.specs.declared.events.Event.{Event}
 use Rattle.hart_core.specs.declared.events.Event.TheVariants as event
 use Rattle.hart_core.specs.declared.events.Came.{Came}
@@ -99,8 +99,8 @@ abbrev pub OneHart : Trace → Type 0
 OneHart t = (h : ℕ) × All (λ (c : TracedCall). c.hart ≡ h) t.calls
 
 -- some list of tree steps explains the trace
-abbrev pub IsExplained : TreeData → Trace → Type 0
-IsExplained base t = (list : List Placed) × Explains base t list
+abbrev pub IsExplained : Version → TreeData → Trace → Type 0
+IsExplained version base t = (list : List Placed) × Explains version base t list
 
 module _ {D : Type 0} (contents : D → List (List ℕ)) (failures : D → ℕ) where
   -- Let the world be mounted, and let each step of some history of the run have found room. Then one list of tree
@@ -111,4 +111,4 @@ module _ {D : Type 0} (contents : D → List (List ℕ)) (failures : D → ℕ) 
       (device : D) (history : List (EventOf Call Outside)) → IsMounted contents failures device w
       → IsHistory contents failures w.sizes w.harts events outcomes new history
       → FoundRoom contents failures w history → NoneClimbs (trace_in events outcomes) ⊎ OneHart (trace_in events outcomes)
-      → IsExplained (tree_in (contents device)) (trace_in events outcomes)
+      → IsExplained w.sizes.version (tree_in (contents device)) (trace_in events outcomes)

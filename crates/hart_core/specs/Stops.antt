@@ -1,6 +1,6 @@
 -- A stop after a run of a mounted world: how much of it the disk holds.
 use Rattle.std.specs.Prelude.{◌≡◌, ◌⊎◌, ℕ, zero, suc, ◌+◌, ◌<◌, List, [], ◌∷◌, ◌++◌, Option, Some, None, slice_get, take}
-use Rattle.hart_core.specs.Vocabulary.{Super, Reply, Call, Placed, Trace, TracedCall, Chain, Explains, IsNamedPart, acts_of, Tree, tree_of, TreeData, tree_in, Marks, joined, no_marks, before, EventOf, Plain, plain_makes, plain_run, LogPart, Outside, block_calls, block_code, marks_told, at_point, marks_at}
+use Rattle.hart_core.specs.Vocabulary.{Super, Version, Reply, Call, Placed, Trace, TracedCall, Chain, Explains, IsNamedPart, acts_of, Tree, tree_of, TreeData, tree_in, Marks, joined, no_marks, before, EventOf, Plain, plain_makes, plain_run, LogPart, Outside, block_calls, block_code, marks_told, at_point, marks_at}
 use Rattle.hart_core.specs.declared.events.Event.{Event}
 use Rattle.hart_core.specs.declared.events.Event.TheVariants as event
 use Rattle.hart_core.specs.declared.events.Came.{Came}
@@ -28,17 +28,17 @@ up_to (Some n) = n + 1
 abbrev pub IsMarkedBy : Option ℕ → Option ℕ → ℕ → Type 0
 IsMarkedBy cut doubt k = (k ≡ up_to cut) ⊎ ((n : ℕ) × (doubt ≡ Some n) × (k ≡ n + 1))
 
--- One list of tree steps explains the trace, from this tree. The entries of its events up to the cut, or up to the
--- doubt, are a beginning of it. The disk's tree is what has names in the tree to which they lead.
-pub record HoldsABeginning (base : TreeData) (t : Trace) (disk : List (List ℕ)) (cut doubt : Option ℕ) : Type 0 where
+-- One list of tree steps of this version explains the trace, from this tree. The entries of its events up to the cut, or
+-- up to the doubt, are a beginning of it. The disk's tree is what has names in the tree to which they lead.
+pub record HoldsABeginning (version : Version) (base : TreeData) (t : Trace) (disk : List (List ℕ)) (cut doubt : Option ℕ) : Type 0 where
   pub list : List Placed
-  pub explains : Explains base t list
+  pub explains : Explains version base t list
   pub k : ℕ
   pub marked : IsMarkedBy cut doubt k
   pub rest : List Placed
   pub begins : before k list ++ rest ≡ list
   pub tree : Tree
-  pub leads : Chain (tree_of base) (before k list) tree
+  pub leads : Chain version (tree_of base) (before k list) tree
   pub named : IsNamedPart tree (tree_of (tree_in disk))
   -- a call that replied in these events has all its entries there
   pub returned : (id : ℕ) (c : TracedCall) (now : ℕ) (reply : Reply) → slice_get t.calls id ≡ Some c → c.finished ≡ Some (now, reply)
@@ -95,4 +95,4 @@ module _ {D : Type 0} (contents : D → List (List ℕ)) (failures : D → ℕ) 
         → i < j → slice_get events j ≡ Some (event.Step h) → slice_get outcomes j ≡ Some (came.Stepped (outcome.Done reply)) → i < up_to cut
     pub holds : (device : D) → IsMounted contents failures device w → FoundRoom contents failures w history
         → NoneClimbs (trace_in events outcomes) ⊎ OneHart (trace_in events outcomes)
-        → HoldsABeginning (tree_in (contents device)) (trace_in events outcomes) (contents new.core.log.cache.device) cut doubt
+        → HoldsABeginning w.sizes.version (tree_in (contents device)) (trace_in events outcomes) (contents new.core.log.cache.device) cut doubt

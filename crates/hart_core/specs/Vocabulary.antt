@@ -1,10 +1,10 @@
 -- What the crates below call things: the words that this crate's definitions and contracts use.
-pub use Rattle.calls_on_blocks.specs.Vocabulary.{Answer, Begins, Code, DidEnd, Event as EventOf, IsMountable, IsNamedPart, IsPlaced, IsWellFormed, LogPart, Op, Outside, Refusal, Start as StartOf, Step as StepOf, Theory, Tree, are_bytes, before, fresh, is_open, joined, no_marks, or_else, run, tree_in, tree_of, Chain}
+pub use Rattle.calls_on_blocks.specs.Vocabulary.{Answer, Begins, Code, DidEnd, Event as EventOf, IsMountable, IsNamedPart, IsPlaced, IsWellFormed, LogPart, Op, Outside, Refusal, Start as StartOf, Step as StepOf, Theory, Tree, are_bytes, before, fresh, is_open, joined, no_marks, or_else, run, tree_in, tree_of, version_in, Chain, Version}
 unfoldable pub use Rattle.calls_on_blocks.specs.Vocabulary.{exec, sizes_of}
 pub use Rattle.inodes_on_blocks.specs.Vocabulary.{HasBytes, HasWholeBlocks, IsOutsideLog, Machine, State, TablesState, block_at, buffer_count, count_of, file_named, holder_of as buffer_holder, is_held_by, is_marked, lock_holder as holder_of, seen_of}
 unfoldable pub use Rattle.inodes_on_blocks.specs.Vocabulary.{May, MayWait, logged, numbers_by, recovered, unused_from}
 pub use Rattle.tree_laws.specs.Vocabulary.{Other, Replied, Shown, Started, TreeData, call_climbs, noted, trace_of}
-pub use Rattle.plain_tree.specs.VersionOne.{Explains}
+pub use Rattle.plain_tree.specs.Explains.{Explains}
 unfoldable pub use Rattle.tree_laws.specs.Vocabulary.{acts_of}
 pub use Rattle.syscalls.specs.Vocabulary.{CallsOnce, LeavesTied, P, state_of}
 pub use Rattle.fs_machine.specs.Vocabulary.{MatchOption, Phase, asks, hart_count, list_any, option_map}
@@ -26,7 +26,7 @@ pub use Rattle.fs_machine.specs.Premises.{IsElsewhere, JoinWaits}
 unfoldable pub use Rattle.fs_machine.specs.Premises.{Honest}
 pub use Rattle.fs_machine.specs.Steps.{kind_of}
 pub use Rattle.image_tree.specs.Damage.{fault_count_of, faults_with}
-pub use Rattle.image_tree.specs.VersionOne.{JudgesFault}
+pub use Rattle.image_tree.specs.Images.{JudgesFault}
 pub use Rattle.image_tree.specs.Freeing.{AreFreed, AreNamed}
 pub use Rattle.image_tree.specs.declared.fault.MountFault.{MountFault}
 pub use Rattle.image_tree.specs.declared.fault.MountFault.TheVariants.{DeviceFault}

@@ -159,7 +159,7 @@ impl Calls {
     pub fn begin(&mut self, hart: u8, sizes: &Super, call: Call)
         requires eight { hart < HARTS }
         requires idle { get_or self.old hart None ≡ None }
-        requires call { IsCall call }
+        requires call { IsCall sizes.now.version call }
         requires sized { IsSized sizes.now }
         ensures begun { HasBegun sizes.now call (get_or self.new hart None) }
         ensures kept { self.new ≡ slice_set self.old hart (get_or self.new hart None) }

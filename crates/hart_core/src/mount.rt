@@ -13,8 +13,7 @@ use calls_on_blocks::logs_may_begin;
 use fs_layout::Super;
 use fs_machine::{Core, Tables};
 use group_log::Log;
-use image_tree::{MountFault, examine_layout, settle};
-use image_versions::Version;
+use image_tree::{MountFault, examine_layout, find_version, settle};
 use std::alloc::Global;
 
 /// All memory that a file system takes, and the sizes of its disk.
@@ -25,7 +24,8 @@ struct Ready {
     calls: Calls,
 }
 
-// Examines the image, takes the memory, recovers the disk, and frees the nodes without a name.
+// Examines the image as one of the version that it says, takes the memory, recovers the disk, and frees the nodes
+// without a name.
 #[tactic(auto, using(block_device::specs::CallLaws::by_calls))]
 fn prepare<D: Device>(alloc: Global, device: &mut D) -> Result<Ready, MountFault>
     ensures ready { IfOk result
@@ -38,11 +38,12 @@ fn prepare<D: Device>(alloc: Global, device: &mut D) -> Result<Ready, MountFault
     ensures calls { ComesByCalls D.Called device.old device.new }
     ensures err { IfErr result (λ fault. HandsBack D.contents D.failures device.old device.new fault) }
 {
-    let layout = examine_layout(alloc, device, Version::One)?;
+    let version = find_version(device)?;
+    let layout = examine_layout(alloc, device, version)?;
     let buffers = Buffers::new(alloc)?;
     let tables = Tables::new(alloc)?;
     let calls = Calls::idle(alloc)?;
-    match settle(device, Version::One, layout.sizes) {
+    match settle(device, version, layout.sizes) {
         Ok(()) => {}
         Err(fault) => {
             calls.end();

@@ -5,7 +5,7 @@ ghost use Rattle.atomic_programs.specs.Calls.{Start as StartOf, Step as StepOf};
 ghost use Rattle.group_log.specs.Phases.{is_point};
 ghost use Rattle.fs_machine.specs.Machines.{CallsOnce};
 ghost use Rattle.fs_layout.specs.Recovered.{sizes_of};
-ghost use Rattle.image_tree.specs.VersionOne.{IsWellFormed};
+ghost use Rattle.image_tree.specs.Images.{IsWellFormed};
 ghost use Rattle.hart_core.specs.Harts.{outcome_of, said, shared_of, AreHarts};
 ghost use Rattle.hart_core.specs.Mounting.{HandsBack, Rests};
 ghost use Rattle.hart_core.specs.Promised.{IdleHartsHaveNothing, QuietBlocksAreAnImage, WaitsByTheRule};
@@ -23,12 +23,14 @@ use buffer_cache::HARTS;
 use fs_layout::Super;
 use group_log::Phase;
 use image_tree::MountFault;
+use image_versions::Version;
 use path_walk::Heard;
 use plain_tree::Call;
 use std::alloc::Global;
 use std::marker::Model;
 
-/// A mounted file system, with the calls that eight harts have under way. A contract sees its harts and the sizes of its disk.
+/// A mounted file system, with the calls that eight harts have under way. A contract sees its harts, and the sizes of
+/// its disk, which have the version of its image.
 ///
 /// After it was mounted it takes no memory. It must be unmounted.
 pub struct World<D: Device> {
@@ -50,10 +52,13 @@ impl<D: Device> Model for World<D> {
 
 impl<D: Device> World<D> {
     /// Examines the image on a device, takes all memory, and then recovers the disk and frees each node without a
-    /// name. If it finds a damage, or the device fails, or memory is short, it answers that and hands the device
-    /// back. An image's first damage is the one answered. Nothing was written then, unless the device failed in the
-    /// recovery or after it. Each hart is idle, in the root, and has no descriptors (xv6: `fsinit` with `readsb`,
-    /// `initlog` and `ireclaim`; `binit`, `iinit`, `fileinit`).
+    /// name. The image may be of version 1 or 2 (docs/FORMATS.md): it is examined and served as one of the version that
+    /// its magic number says. If that is no version's, its superblock is damaged.
+    ///
+    /// If it finds a damage, or the device fails, or memory is short, it answers that and hands the device back. An
+    /// image's first damage is the one answered. Nothing was written then, unless the device failed in the recovery or
+    /// after it. Each hart is idle, in the root, and has no descriptors (xv6: `fsinit` with `readsb`, `initlog` and
+    /// `ireclaim`; `binit`, `iinit`, `fileinit`).
     pub fn mount(alloc: Global, device: D) -> Result<World<D>, (D, MountFault)>
         ensures ok { IfOk result (λ w. IsWellFormed (D.contents device) × Rests D.contents D.failures device w.harts
             × (w.sizes ≡ sizes_of (D.contents device))) }
@@ -185,6 +190,13 @@ impl<D: Device> World<D> {
         self.harts.lacks_place()
     }
 
+    /// The version of the image that it is mounted on.
+    pub fn version(&self) -> Version
+        ensures { result ≡ self.now.sizes.version }
+    {
+        self.sizes.version
+    }
+
     /// How far the log's commit is: none is under way, or how many of its blocks were copied.
     pub fn phase(&self) -> Phase
         ensures { result ≡ self.now.harts.core.log.phase }
@@ -201,10 +213,11 @@ impl<D: Device> World<D> {
 
     /// Ends it at any moment, also in mid-call, in the middle of a commit, or after a failure of the device. It makes
     /// no call of the device, and gives the device back. Its disk passes all checks as recovery sees it, so that it
-    /// can be mounted again.
+    /// can be mounted again. It has the sizes, and so the version, with which it was mounted.
     pub fn unmount(self) -> D
         ensures device { result ≡ self.harts.core.log.cache.device }
         ensures well { IsWellFormed (D.contents result) }
+        ensures sizes { sizes_of (D.contents result) ≡ self.sizes }
     {
         let World {
             harts,

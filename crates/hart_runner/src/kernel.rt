@@ -1,7 +1,7 @@
 //! The kernel, its seats, and the calls that they make.
 ghost use Rattle.std.specs.Prelude.{◌≡◌, ◌≢◌, ◌<◌, ◌≤◌, ◌+◌, ◌++◌, ◌∷◌, [], ℕ, Some, None, All, map, sum_by, IfOk, IfErr, IfNone, IfSome, OnOk, OnErr, length, slice_get, true};
 ghost use Rattle.block_device.specs.Blocks.{blocks_of};
-ghost use Rattle.image_tree.specs.VersionOne.{IsWellFormed, JudgesFault};
+ghost use Rattle.image_tree.specs.Images.{IsWellFormed, JudgesFault};
 ghost use Rattle.locked_world.specs.Kept.{replies_of, count_of};
 ghost use Rattle.hart_runner.specs.Seats.{kept_view, kept_of, busy_of, IsListed, OneDiffers, Differs};
 ghost use Rattle.hart_runner.specs.Calls.{WentOn, IsAnswered, IsRefused, StillBusy};

@@ -1,6 +1,7 @@
 -- What a superblock and a log's head that were read say.
 use Rattle.image_tree.proofs.Vocabulary.{Version, magic_of, ◌≡◌, ℕ, ◌≤◌, Bool, true, false, cond, eqb, leb, List, Some, None, refl, sym, ap, ◌∙◌, arith, eqb-true, nat_tests, Super, LogHead, unwrap_or, version_of_magic, One, Option, length, ◌<◌, [], get_or_past, u32_at, u32s_at, super_of, super_fields, log_head_of, block_at, sizes_of, logged, log_count, HasGoodLog}
-use Rattle.image_tree.specs.Versions.{SupersTellVersions, version_of}
+use Rattle.image_tree.specs.Versions.{SupersTellVersions}
+use Rattle.fs_layout.specs.Recovered.{version_in}
 use Rattle.image_versions.proofs.Places.{magics_tell}
 
 pub some_from : {T : Type 0} (b : Bool) (x y : T) → cond b (Some x) None ≡ Some y → (b ≡ true) × (x ≡ y)
@@ -34,9 +35,10 @@ no_head disk block e is good =
 
 -- the magic number of a superblock of this version is that of the version
 pub supers_tell : SupersTellVersions
+unfolding sizes_of
 supers_tell v disk super = ap (λ (m : ℕ). unwrap_or (version_of_magic m) One) super.0 ∙ ap (λ (w : Option Version). unwrap_or w One) (magics_tell v)
 
 -- a disk without a superblock is of version 1
-pub short_is_one : (disk : List (List ℕ)) → length disk < 2 → One ≡ version_of disk
-unfolding u32_at
+pub short_is_one : (disk : List (List ℕ)) → length disk < 2 → One ≡ version_in disk
+unfolding u32_at sizes_of
 short_is_one disk short = sym (ap (λ (block : List ℕ). unwrap_or (version_of_magic (u32_at block 0)) One) (get_or_past disk 1 [] (omega arith)))

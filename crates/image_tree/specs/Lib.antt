@@ -14,4 +14,4 @@ pub mod Reads
 pub mod Recovery
 pub mod Views
 pub mod Freeing
-pub mod VersionOne
+pub mod Images

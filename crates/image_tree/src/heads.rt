@@ -1,12 +1,13 @@
 //! The superblock and the log's head.
 ghost use Rattle.std.specs.Prelude.{◌≡◌, ◌≢◌, ◌<◌, ◌≤◌, ◌↔◌, length, All, Err, IfOk, IsFalse, IsTrue};
+ghost use Rattle.fs_layout.specs.Recovered.{version_in};
 ghost use Rattle.image_tree.specs.Vocabulary.{faults_after, ComesByCalls, sizes_of};
 ghost use Rattle.image_tree.specs.Checks.{IsGoodSuper, HasSuper};
 ghost use Rattle.image_tree.specs.Damage.{JudgesWith, UpToShort, UpToSize, faults_with};
 ghost use Rattle.image_tree.specs.Layout.{IsLayout};
 ghost use Rattle.image_tree.specs.Lists.{IsOnce};
 ghost use Rattle.image_tree.specs.Reads.{OnlyReads};
-ghost use Rattle.image_tree.specs.Versions.{SupersTellVersions, version_of};
+ghost use Rattle.image_tree.specs.Versions.{SupersTellVersions};
 
 use crate::disk::Layout;
 use crate::fault::{Damage, MountFault};
@@ -126,8 +127,9 @@ pub fn find_layout<D: Device>(device: &mut D, version: Version) -> Result<Layout
 
 /// The version whose magic number an image begins with, and the first if it is none's: its examination says whether
 /// it is an image. A disk without a superblock is not read.
+#[tactic(auto, using(block_device::specs::CallLaws::by_calls), unfolding(fs_layout::specs::Recovered::sizes_of))]
 pub fn find_version<D: Device>(device: &mut D) -> Result<Version, Fault>
-    ensures version { IfOk result (λ version. version ≡ version_of (D.contents device.old)) }
+    ensures version { IfOk result (λ version. version ≡ version_in (D.contents device.old)) }
     ensures device { OnlyReads D.contents D.failures (faults_after result) device.old device.new }
     ensures calls { ComesByCalls D.Called device.old device.new }
 {

@@ -4,7 +4,7 @@ use Rattle.std.proofs.lemmas.Bool.{eqb-true}
 use Rattle.image_versions.specs.declared.version.Version.{Version}
 use Rattle.image_versions.specs.declared.version.Version.TheVariants.{One, Two}
 use Rattle.image_versions.specs.Versions.{magic_of}
-use Rattle.image_versions.specs.Laws.{MagicsTellVersions, MagicsAreOfTheirVersion, NumbersTellVersions, NumbersAreOfVersions, WidthsAreInRange, EntriesFillBlocks, EntriesLieInBlocks, EntriesLieApart, SlotsLieInTheirBlocks, SlotsLieInTheirContent, LengthsCountSlots, ContentsHoldTheMostSlots, NewDirectoriesFit, BlocksHoldEntries, MostSlotsFit, LaterNamesAreLonger}
+use Rattle.image_versions.specs.Laws.{MagicsTellVersions, MagicsAreOfTheirVersion, NumbersTellVersions, NumbersAreOfVersions, WidthsAreInRange, EntriesFillBlocks, EntriesLieInBlocks, EntriesLieApart, SlotsLieInTheirBlocks, SlotsLieInTheirContent, LengthsCountSlots, ContentsHoldTheMostSlots, NewDirectoriesFit, BlocksHoldEntries, MostSlotsFit, LaterNamesAreLonger, EntriesAreWords, PlacesLieInTheirBlocks, BlocksHaveTheSlotsBelow, SlotsTakeBlocks, DirectoriesHaveWholeBlocks}
 
 pub magics_tell : MagicsTellVersions
 magics_tell One = refl
@@ -63,6 +63,26 @@ hold_entries Two n blocks low = (omega arith, omega arith, omega arith)
 pub most_fit : MostSlotsFit
 most_fit One n few = omega arith
 most_fit Two n few = omega arith
+
+pub are_words : EntriesAreWords
+are_words One = refl
+are_words Two = refl
+
+pub in_block : PlacesLieInTheirBlocks
+in_block One k place low = (omega arith, omega arith)
+in_block Two k place low = (omega arith, omega arith)
+
+pub have_below : BlocksHaveTheSlotsBelow
+have_below One s blocks = (λ h. omega arith, λ h. omega arith)
+have_below Two s blocks = (λ h. omega arith, λ h. omega arith)
+
+pub take_blocks : SlotsTakeBlocks
+take_blocks One n k = (λ h. omega arith, λ h. omega arith)
+take_blocks Two n k = (λ h. omega arith, λ h. omega arith)
+
+pub whole_blocks : DirectoriesHaveWholeBlocks
+whole_blocks One = (λ k low. omega arith, λ n few. omega arith)
+whole_blocks Two = (λ k low. omega arith, λ n few. omega arith)
 
 pub longer : LaterNamesAreLonger
 longer One One less = omega arith

@@ -2,7 +2,7 @@
 use Rattle.std.specs.Prelude.{◌≡◌, ℕ, ◌+◌, ◌-◌, ◌*◌, ◌/◌, ◌%◌, ◌<◌, ◌≤◌, ◌^◌, Some}
 use Rattle.image_versions.specs.declared.version.Version.{Version}
 use Rattle.image_versions.specs.declared.version.Version.TheVariants.{One, Two}
-use Rattle.image_versions.specs.Shared.{block_len, largest_size}
+use Rattle.image_versions.specs.Shared.{block_len, largest_size, most_content_blocks}
 use Rattle.image_versions.specs.Versions.{number_of, magic_of, name_len_of, longest_name, dirent_len_of, dirents_per_block_of, most_slots_of, new_directory_size_of, version_of_number, version_of_magic}
 
 abbrev pub MagicsTellVersions : Type 0
@@ -62,6 +62,33 @@ BlocksHoldEntries = (v : Version) (n blocks : ℕ) → dirent_len_of v * n ≤ b
 -- the entries of a directory with no more than the most slots are no longer than a node may be
 abbrev pub MostSlotsFit : Type 0
 MostSlotsFit = (v : Version) (n : ℕ) → n ≤ most_slots_of v → dirent_len_of v * n ≤ largest_size
+
+-- an entry is whole words of eight bytes
+abbrev pub EntriesAreWords : Type 0
+EntriesAreWords = (v : Version) → 8 * (dirent_len_of v / 8) ≡ dirent_len_of v
+
+-- a place of block k is a slot of that block
+abbrev pub PlacesLieInTheirBlocks : Type 0
+PlacesLieInTheirBlocks = (v : Version) (k place : ℕ) → place < dirents_per_block_of v
+    → ((dirents_per_block_of v * k + place) / dirents_per_block_of v ≡ k)
+    × ((dirents_per_block_of v * k + place) % dirents_per_block_of v ≡ place)
+
+-- the first blocks have the slots below this, and no others
+abbrev pub BlocksHaveTheSlotsBelow : Type 0
+BlocksHaveTheSlotsBelow = (v : Version) (s blocks : ℕ) → (s / dirents_per_block_of v < blocks → s < dirents_per_block_of v * blocks)
+    × (s < dirents_per_block_of v * blocks → s / dirents_per_block_of v < blocks)
+
+-- block k has some of the first n slots exactly if it is one of the blocks that they take
+abbrev pub SlotsTakeBlocks : Type 0
+SlotsTakeBlocks = (v : Version) (n k : ℕ)
+    → (k < (n + (dirents_per_block_of v - 1)) / dirents_per_block_of v → dirents_per_block_of v * k < n)
+    × (dirents_per_block_of v * k < n → k < (n + (dirents_per_block_of v - 1)) / dirents_per_block_of v)
+
+-- a directory has the slots of each block that a content may have, and takes no more blocks
+abbrev pub DirectoriesHaveWholeBlocks : Type 0
+DirectoriesHaveWholeBlocks = (v : Version)
+    → ((k : ℕ) → k < most_content_blocks → dirents_per_block_of v * k + dirents_per_block_of v ≤ most_slots_of v)
+    × ((n : ℕ) → n ≤ most_slots_of v → (n + (dirents_per_block_of v - 1)) / dirents_per_block_of v ≤ most_content_blocks)
 
 -- a name of a version is one of each later version
 abbrev pub LaterNamesAreLonger : Type 0

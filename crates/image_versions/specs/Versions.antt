@@ -23,6 +23,10 @@ name_len_of Two = 30
 abbrev pub longest_name : ℕ
 longest_name = name_len_of Two
 
+-- the bytes of the longest entry of any version
+abbrev pub longest_dirent : ℕ
+longest_dirent = entry_number_len + longest_name
+
 -- the bytes of an entry: the inode's number, and the name's field
 abbrev pub dirent_len_of : Version → ℕ
 dirent_len_of v = entry_number_len + name_len_of v

@@ -26,3 +26,6 @@ pub const ENTRY_NUMBER_LEN: usize = 2;
 
 /// The bytes of the longest name of any version.
 pub const LONGEST_NAME: usize = crate::two::NAME_LEN;
+
+/// The bytes of the longest entry of any version.
+pub const LONGEST_DIRENT_LEN: usize = ENTRY_NUMBER_LEN + LONGEST_NAME;

@@ -16,7 +16,7 @@ pub s-enter-with : (version : Version) {A : Type 0} {h : ℕ} (d i : ℕ) {x : H
     → Safe (machine version) h B Q (Do (Enter d e i) m k) n es w
 s-enter-with version {A} {h} d i {x} X e {m} {k} {B} {Q} {n} {es} {w} {O} owns free lt pos joined isd xd locked live named from below can block slot good no_block no_slot = s-owned version owns free pos (λ v inv ov. (
   ((locks_it h d v O x ov isd locked, ap (λ (o : Own). o.desk.joined) ov ∙ joined), record { node = X; is = has_disk h d v O x ov isd ∙ xd; fits = (linked.1, less_is 0 X.count linked.0) }, (from, (let s : v.all.ninodes ≡ O.ninodes = ap (λ (o : Own). o.ninodes) ov in omega (arith, s, below))), named),
-  (λ o _. by_slots v inv ov o (is_full_directory (v.disk d))),
+  (λ o _. by_slots v inv ov o (is_full_directory version (v.disk d))),
 ))
   where
     linked : (nat_lt 0 X.count ≡ true) × (is_directory X.kind ≡ true)

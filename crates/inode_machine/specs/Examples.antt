@@ -292,7 +292,7 @@ LinkOfMany = replies One (run (covered_calls One) (makes 0 link_ab 11) (fresh (c
 abbrev pub full_root : Tree
 full_root = let t : Tree = tree_of (fresh_tree One 10) in
     with_nodes t (put t.nodes 1
-    (Some (record { count = 1; kind = Directory (replicate slot_limit (Some (record { name = codes "x"; number = 2 }))) })))
+    (Some (record { count = 1; kind = Directory (replicate (slot_limit One) (Some (record { name = codes "x"; number = 2 }))) })))
 
 abbrev pub FindsNoSlot : Tree → Call → List (Event Call Outside) → Type 0
 FindsNoSlot t c events = replies One (run (covered_calls One) events (fresh (covered_calls One) (at_rest t))).finished

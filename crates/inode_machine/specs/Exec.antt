@@ -6,7 +6,6 @@ use Rattle.inode_machine.specs.Inodes.{InodeType, OfDirectory, OfFile, OfDevice,
 use Rattle.inode_machine.specs.World.{Mine, Entry, Desk, World, Op, Answer, ClaimResult, New, NoInode, NoPlace, EntryResult, InPlace, NoBlock, NoSlot, LockResult, NotLocked, LocksIt, JoinResult, NotJoined, Joined, Wrote, Whole, Refused, Short, LoanResult, Lent, Moved, Outside, Room, RoomFor, Picks}
 use Rattle.inode_machine.specs.World.Op.{Take, UnlockInode, UpStart, Up, WalkDown, Down, Free, Forget, Claim, Store, Fill, Enter, Clear, Empty, Slot, Install, StatFile, LockFile, ReadFile, CheckFile, JoinFile, LockOpen, WriteFile, Double, Shut, SetDirectory, Lend, LendDirectory, Release, Join, Leave, Say}
 use Rattle.image_versions.specs.Versions as versions
-use Rattle.image_versions.specs.declared.version.Version.TheVariants.{One}
 
 abbrev pub is_nothing : {A : Type 0} → Option A → Bool
 is_nothing None = true
@@ -134,15 +133,15 @@ fill_if n d w Room = Ran true (changed_record w n (with_dots n d))
 fill_if n d w (RoomFor k) = Ran false w
 fill_if n d w (Picks k) = Ran false w
 
-abbrev pub slot_limit : ℕ
-slot_limit = versions.most_slots_of One
+abbrev pub slot_limit : Version → ℕ
+slot_limit = versions.most_slots_of
 
 unfoldable pub all_used : List (Option DirectorySlot) → Bool
 all_used [] = true
 all_used (s ∷ ss) = is_used s && all_used ss
 
-abbrev pub is_full_directory : Option Node → Bool
-is_full_directory v = (length (all_slots v) == slot_limit) && all_used (all_slots v)
+abbrev pub is_full_directory : Version → Option Node → Bool
+is_full_directory version v = (length (all_slots v) == slot_limit version) && all_used (all_slots v)
 
 abbrev pub with_entry : Name → ℕ → Node → Node
 with_entry e n v = record v { kind = Directory (first_free (slots_of v.kind) (record { name = e; number = n })) }
@@ -415,7 +414,7 @@ exec version h x (Forget n) w = Ran tt (counted_down h n w)
 exec version h x (Claim inode_type) w = claim_if h inode_type w x
 exec version h x (Store n count) w = Ran tt (changed_record w n (with_count count))
 exec version h x (Fill n d) w = fill_if n d w x
-exec version h x (Enter d e n) w = enter_if d e n w x (is_full_directory (w.disk d))
+exec version h x (Enter d e n) w = enter_if d e n w x (is_full_directory version (w.disk d))
 exec version h x (Clear d e) w = Ran tt (changed_record w d (without_entry e))
 exec version h x (Empty n) w = Ran tt (changed_record w n with_no_bytes)
 exec version h x Slot w = slot_if h w (first_from file_count 0 (is_empty_slot w))

@@ -1,5 +1,5 @@
 -- What an operation on whole inodes is below, if it is one operation.
-use Rattle.inode_parts.proofs.Vocabulary.{◌≡◌, ◌≢◌, ℕ, zero, suc, List, [], ◌++◌, Bool, true, false, Option, Some, None, refl, sym, ap, ◌∙◌, subst, inl, inr, append-nil, if◌then◌else◌, is_some, IsSome, MatchOption, option_map_or, unwrap_or, put, eq_is, Prog, Ret, Do, bind, plain, unmarked, GuardState, Loaded, Super, Inode, Given, AfterLeave, Commits, holding, P, after_leave, commit_unless, commits, most_writes, Hand, InodePlace, One, Two, inode_at, inode_in, no_inode, number_at, reference_at, new_file, Acts, joining_to, lent_to, with_dying, is_listed, is_dying, Carry, Had, Apart, record_had, joined_in, loan_in, op_in, Ask, Element, BeginsWith, carry_in, had_at, had_of, IsPart, Part, one, Begins, HasReference, IsAlone, MayRefer, StepReady, free_seat, joining_heard, loan_heard, locks, seat_of_lock, seat_of_reference, still, having, ends_with, is_short, part_for, part_left, PartReady, one_or_leave, PartTold, FillsAs, Note, Notes, OneStep}
+use Rattle.inode_parts.proofs.Vocabulary.{◌≡◌, ◌≢◌, ℕ, zero, suc, List, [], ◌++◌, Bool, true, false, Option, Some, None, refl, sym, ap, ◌∙◌, subst, inl, inr, append-nil, if◌then◌else◌, is_some, IsSome, MatchOption, option_map_or, unwrap_or, put, eq_is, Prog, Ret, Do, bind, plain, unmarked, GuardState, Loaded, Super, Inode, Given, AfterLeave, Commits, holding, P, after_leave, commit_unless, commits, most_writes, Hand, InodePlace, One, Two, inode_at, inode_in, no_inode, number_at, reference_at, new_file, Acts, joining_to, lent_to, with_dying, is_listed, is_dying, Carry, Had, Apart, record_had, joined_in, loan_in, op_in, Ask, Element, BeginsWith, carry_in, had_at, had_of, IsPart, Part, one, Begins, HasReference, IsAlone, MayRefer, StepReady, free_seat, joining_heard, loan_heard, locks, seat_of_lock, seat_of_reference, still, having, ends_with, is_short, part_for, part_left, PartReady, one_or_leave, PartTold, FillsAs, Note, Notes, OneStep, Version}
 use Rattle.fs_machine.specs.declared.slots.Given.TheVariants as given
 use Rattle.group_log.specs.declared.log.AfterLeave.TheVariants.{Free}
 use Rattle.fs_machine.specs.Steps as steps
@@ -121,28 +121,28 @@ other_fills text (ask.ReadFile fd n offset count) q other = absurd (other fd n o
 other_fills text a q other = tt
 
 -- what is short begins with what it asks, and fills nothing
-pub short_so : (path : List ℕ) (m : Notes) (a : Ask) (h : Hand) → is_short a ≡ true → BeginsWith path (op_in path a) (having h m) → Begins (op_in path a) h
-short_so path m (ask.Store n count) h short has = absurd (cc short)
-short_so path m (ask.Empty n) h short has = absurd (cc short)
-short_so path m (ask.Enter d e n) h short has = absurd (cc short)
-short_so path m (ask.Clear d e) h short has = absurd (cc short)
-short_so path m (ask.Fill n d) h short has = absurd (cc short)
-short_so path m (ask.Free n) h short has = absurd (cc short)
-short_so path m (ask.Claim inode_type) h short has = absurd (cc short)
-short_so path m (ask.LockOpen fd n) h short has = absurd (cc short)
-short_so path m (ask.LockFile fd) h short has = absurd (cc short)
-short_so path m (ask.StatFile fd) h short has = absurd (cc short)
-short_so path m (ask.Take n query) h short has = absurd (cc short)
-short_so path m (ask.ReadFile fd n offset count) h short has = absurd (cc short)
-short_so path m (ask.WriteFile fd n offset index) h short has = absurd (cc short)
-short_so path m a h short has = has
+pub short_so : (v : Version) (path : List ℕ) (m : Notes) (a : Ask) (h : Hand) → is_short a ≡ true → BeginsWith v path (op_in path a) (having h m) → Begins (op_in path a) h
+short_so v path m (ask.Store n count) h short has = absurd (cc short)
+short_so v path m (ask.Empty n) h short has = absurd (cc short)
+short_so v path m (ask.Enter d e n) h short has = absurd (cc short)
+short_so v path m (ask.Clear d e) h short has = absurd (cc short)
+short_so v path m (ask.Fill n d) h short has = absurd (cc short)
+short_so v path m (ask.Free n) h short has = absurd (cc short)
+short_so v path m (ask.Claim inode_type) h short has = absurd (cc short)
+short_so v path m (ask.LockOpen fd n) h short has = absurd (cc short)
+short_so v path m (ask.LockFile fd) h short has = absurd (cc short)
+short_so v path m (ask.StatFile fd) h short has = absurd (cc short)
+short_so v path m (ask.Take n query) h short has = absurd (cc short)
+short_so v path m (ask.ReadFile fd n offset count) h short has = absurd (cc short)
+short_so v path m (ask.WriteFile fd n offset index) h short has = absurd (cc short)
+short_so v path m a h short has = has
 
 pub short_fills : (text : List ℕ) (a : Ask) (q : Part) → is_short a ≡ true → FillsAs a text q
 short_fills text (ask.ReadFile fd n offset count) q short = absurd (cc short)
 short_fills text a q short = tt
 
 -- any ask but the longer ones is one operation below, or leaves a transaction
-pub short_begins : (path : List ℕ) (m : Notes) (a : Ask) (h : Hand) → BeginsWith path (op_in path a) (having h m)
+pub short_begins : (v : Version) (path : List ℕ) (m : Notes) (a : Ask) (h : Hand) → BeginsWith v path (op_in path a) (having h m)
     → ((n count : ℕ) → a ≢ ask.Store n count)
     → ((n : ℕ) → a ≢ ask.Empty n)
     → ((d : ℕ) (e : Element) (n : ℕ) → a ≢ ask.Enter d e n)
@@ -157,20 +157,20 @@ pub short_begins : (path : List ℕ) (m : Notes) (a : Ask) (h : Hand) → Begins
     → ((fd n offset count : ℕ) → a ≢ ask.ReadFile fd n offset count)
     → ((fd n offset i : ℕ) → a ≢ ask.WriteFile fd n offset i)
     → Begins (op_in path a) h
-short_begins path m (ask.Store n count) h has store empty enter clear fill free claim opened locked told taken reads writes = absurd (store n count refl)
-short_begins path m (ask.Empty n) h has store empty enter clear fill free claim opened locked told taken reads writes = absurd (empty n refl)
-short_begins path m (ask.Enter d e n) h has store empty enter clear fill free claim opened locked told taken reads writes = absurd (enter d e n refl)
-short_begins path m (ask.Clear d e) h has store empty enter clear fill free claim opened locked told taken reads writes = absurd (clear d e refl)
-short_begins path m (ask.Fill n d) h has store empty enter clear fill free claim opened locked told taken reads writes = absurd (fill n d refl)
-short_begins path m (ask.Free n) h has store empty enter clear fill free claim opened locked told taken reads writes = absurd (free n refl)
-short_begins path m (ask.Claim s) h has store empty enter clear fill free claim opened locked told taken reads writes = absurd (claim s refl)
-short_begins path m (ask.LockOpen fd n) h has store empty enter clear fill free claim opened locked told taken reads writes = absurd (opened fd n refl)
-short_begins path m (ask.LockFile fd) h has store empty enter clear fill free claim opened locked told taken reads writes = absurd (locked fd refl)
-short_begins path m (ask.StatFile fd) h has store empty enter clear fill free claim opened locked told taken reads writes = absurd (told fd refl)
-short_begins path m (ask.Take n q) h has store empty enter clear fill free claim opened locked told taken reads writes = absurd (taken n q refl)
-short_begins path m (ask.ReadFile fd n offset count) h has store empty enter clear fill free claim opened locked told taken reads writes = absurd (reads fd n offset count refl)
-short_begins path m (ask.WriteFile fd n offset i) h has store empty enter clear fill free claim opened locked told taken reads writes = absurd (writes fd n offset i refl)
-short_begins path m a h has store empty enter clear fill free claim opened locked told taken reads writes = has
+short_begins v path m (ask.Store n count) h has store empty enter clear fill free claim opened locked told taken reads writes = absurd (store n count refl)
+short_begins v path m (ask.Empty n) h has store empty enter clear fill free claim opened locked told taken reads writes = absurd (empty n refl)
+short_begins v path m (ask.Enter d e n) h has store empty enter clear fill free claim opened locked told taken reads writes = absurd (enter d e n refl)
+short_begins v path m (ask.Clear d e) h has store empty enter clear fill free claim opened locked told taken reads writes = absurd (clear d e refl)
+short_begins v path m (ask.Fill n d) h has store empty enter clear fill free claim opened locked told taken reads writes = absurd (fill n d refl)
+short_begins v path m (ask.Free n) h has store empty enter clear fill free claim opened locked told taken reads writes = absurd (free n refl)
+short_begins v path m (ask.Claim s) h has store empty enter clear fill free claim opened locked told taken reads writes = absurd (claim s refl)
+short_begins v path m (ask.LockOpen fd n) h has store empty enter clear fill free claim opened locked told taken reads writes = absurd (opened fd n refl)
+short_begins v path m (ask.LockFile fd) h has store empty enter clear fill free claim opened locked told taken reads writes = absurd (locked fd refl)
+short_begins v path m (ask.StatFile fd) h has store empty enter clear fill free claim opened locked told taken reads writes = absurd (told fd refl)
+short_begins v path m (ask.Take n q) h has store empty enter clear fill free claim opened locked told taken reads writes = absurd (taken n q refl)
+short_begins v path m (ask.ReadFile fd n offset count) h has store empty enter clear fill free claim opened locked told taken reads writes = absurd (reads fd n offset count refl)
+short_begins v path m (ask.WriteFile fd n offset i) h has store empty enter clear fill free claim opened locked told taken reads writes = absurd (writes fd n offset i refl)
+short_begins v path m a h has store empty enter clear fill free claim opened locked told taken reads writes = has
 
 -- none of these has a name to seek
 pub told_for : (path second : List ℕ) (o : Option OneStep) → PartTold path second (one_or_leave o)

@@ -1,5 +1,5 @@
 -- A name cleared: it is a part, and goes on.
-use Rattle.inode_parts.proofs.Vocabulary.{◌≡◌, ℕ, ◌/◌, ◌%◌, Bool, true, false, if◌then◌else◌, List, Option, Some, None, refl, sym, ap, ◌∙◌, subst, IsSome, MatchOption, option_map_or, Name, put, GuardState, Free, Dinode, IndexState, Loaded, Super, dirents_per_block, Ret, Do, bind, plain, unmarked, Handover, bind-assoc, Inode, index_of, P, fetch, inode_block, record_of, store_inode, FetchedBlock, fetch_block, Named, give_record, put_dirent, put_entry, search, with_dirent, with_slot, cleared, Hand, InodePlace, One, Two, Goes, index_at, inode_at, inode_in, no_inode, with_index, with_record, IsLoadedAt, goes_with, clear_left, beside_buffers, NothingMore, Had, Apart, Carry, Has, record_had, clear_in, clear_slot, put_named, slot_found, slot_of, carry_in, had_at, had_of, handed, note_at, with_note, clear_part_left, cleared_at, slot_in, ClearBegins, HasFound, locks, seat_of_lock, IsPart, Part, Note, Notes, ClearPart}
+use Rattle.inode_parts.proofs.Vocabulary.{◌≡◌, ℕ, ◌/◌, ◌%◌, Bool, true, false, if◌then◌else◌, List, Option, Some, None, refl, sym, ap, ◌∙◌, subst, IsSome, MatchOption, option_map_or, Name, put, GuardState, Free, Dinode, IndexState, Loaded, Super, Version, dirents_per_block_of, Ret, Do, bind, plain, unmarked, Handover, bind-assoc, Inode, index_of, P, fetch, inode_block, record_of, store_inode, FetchedBlock, fetch_block, Named, give_record, put_dirent, put_entry, search, with_dirent, with_slot, cleared, Hand, InodePlace, One, Two, Goes, index_at, inode_at, inode_in, no_inode, with_index, with_record, IsLoadedAt, goes_with, clear_left, beside_buffers, NothingMore, Had, Apart, Carry, Has, record_had, clear_in, clear_slot, put_named, slot_found, slot_of, carry_in, had_at, had_of, handed, note_at, with_note, clear_part_left, cleared_at, slot_in, ClearBegins, HasFound, locks, seat_of_lock, IsPart, Part, Note, Notes, ClearPart}
 use Rattle.fs_machine.specs.Steps as steps
 use Rattle.inode_machine.specs.World as above
 use Rattle.inodes_on_blocks.specs.Handlers as handlers
@@ -23,13 +23,13 @@ had_is path m n h e = at (locks n h.one) refl e
     at false is e = elsewhere path m.one n h.one (had_at path m.two h.two n Apart) is ∙ had_here path m.two n h.two Apart e
 
 -- the slot that was found is that of the name
-found_slot_of : (path : List ℕ) (e : Name) (m : Note) (v : Inode) → HasFound path e m → IsSome v.content → let p : handlers.P Slotted = slot_of (had_of path m v.content) e in p ≡ Ret (slot_in m, index_of v)
-found_slot_of path e (note.Finds x s) v found some = at v.content some
+found_slot_of : (version : Version) (path : List ℕ) (e : Name) (m : Note) (v : Inode) → HasFound version path e m → IsSome v.content → let p : handlers.P Slotted = slot_of version (had_of path m v.content) e in p ≡ Ret (slot_in m, index_of v)
+found_slot_of version path e (note.Finds x s) v found some = at v.content some
   where
-    at : (o : Option Loaded) → IsSome o → let p : handlers.P Slotted = slot_of (had_of path (note.Finds x s) o) e in p ≡ Ret (s, index_of (record { number = v.number; content = o }))
+    at : (o : Option Loaded) → IsSome o → let p : handlers.P Slotted = slot_of version (had_of path (note.Finds x s) o) e in p ≡ Ret (s, index_of (record { number = v.number; content = o }))
     at None some = absurd (cc some)
-    at (Some l) some = ap (λ (b : Bool). let p : handlers.P Slotted = if b then Ret (s, l.index) else bind (search (Named e) l) slot_found in p) found.0
-found_slot_of path e m v found some = absurd found
+    at (Some l) some = ap (λ (b : Bool). let p : handlers.P Slotted = if b then Ret (s, l.index) else bind (search version (Named e) l) slot_found in p) found.0
+found_slot_of version path e m v found some = absurd found
 
 loaded_there : (k : InodePlace) (h : Hand) → IsLoadedAt k h → IsSome (inode_in k h).content
 loaded_there k h there = at (inode_at k h) there
@@ -63,17 +63,17 @@ module _ (sizes : Super) (path : List ℕ) (m : Notes) (n : ℕ) (e : Name) (bef
   over d = Ret (record { answer = tt {0}; carry = put c n (Has (record { inode = d; index = x }) NothingMore) })
 
   abbrev cleared_in : Inode → P (Handover (Unit {0}) Carry)
-  cleared_in v = bind (put_entry sizes.inodestart v.number (record_of v) s Free) over
+  cleared_in v = bind (put_entry sizes.version sizes.inodestart v.number (record_of v) s Free) over
 
   module _ (mark : Unit {0} → Option above.Mark) where
-    block_so : (f : FetchedBlock) → plain (clear_in sizes n e c mark (s, index_of v) f) ≡ bind (put_dirent sizes.inodestart n (record_of had) s Free f) over
-    block_so f = λ i. Do (steps.Put f.number (Some (with_dirent (s % dirents_per_block) Free f.bytes))) unmarked (λ _. stores i)
+    block_so : (f : FetchedBlock) → plain (clear_in sizes n e c mark (s, index_of v) f) ≡ bind (put_dirent sizes.version sizes.inodestart n (record_of had) s Free f) over
+    block_so f = λ i. Do (steps.Put f.number (Some (with_dirent sizes.version (s % dirents_per_block_of sizes.version) Free f.bytes))) unmarked (λ _. stores i)
       where
         b : ℕ
         b = inode_block sizes.inodestart n
 
         d : Dinode
-        d = with_slot s (record_of had)
+        d = with_slot sizes.version s (record_of had)
 
         stores : plain (bind (fetch b) (put_named (above.Clear n e) above.Room mark (tt {0}) b n (record { inode = d; index = x }) c)) ≡ bind (bind (store_inode sizes.inodestart n d) (give_record d)) over
         stores =
@@ -82,9 +82,9 @@ module _ (sizes : Super) (path : List ℕ) (m : Notes) (n : ℕ) (e : Name) (bef
 
     slot_so : plain (clear_slot sizes n e c mark (s, index_of v)) ≡ cleared_in had
     slot_so =
-        then_plain (fetch_block (record_of had) (s / dirents_per_block)) (fetch_block (record_of had) (s / dirents_per_block)) (clear_in sizes n e c mark (s, index_of v)) (λ f. bind (put_dirent sizes.inodestart n (record_of had) s Free f) over)
-        (plain_block (record_of had) (s / dirents_per_block)) block_so
-        ∙ sym (bind-assoc (fetch_block (record_of had) (s / dirents_per_block)) (put_dirent sizes.inodestart n (record_of had) s Free) over)
+        then_plain (fetch_block (record_of had) (s / dirents_per_block_of sizes.version)) (fetch_block (record_of had) (s / dirents_per_block_of sizes.version)) (clear_in sizes n e c mark (s, index_of v)) (λ f. bind (put_dirent sizes.version sizes.inodestart n (record_of had) s Free f) over)
+        (plain_block (record_of had) (s / dirents_per_block_of sizes.version)) block_so
+        ∙ sym (bind-assoc (fetch_block (record_of had) (s / dirents_per_block_of sizes.version)) (put_dirent sizes.version sizes.inodestart n (record_of had) s Free) over)
 
   module _ (p : ClearPart) (begins : ClearBegins sizes path m n e before) (seat : p.seat ≡ k) (slot : p.slot ≡ s) where
     abbrev then_ : Dinode → P (Handover (Unit {0}) Carry)
@@ -93,16 +93,16 @@ module _ (sizes : Super) (path : List ℕ) (m : Notes) (n : ℕ) (e : Name) (bef
     same_over : (d : Dinode) → over d ≡ then_ d
     same_over d = λ i. Ret (record { answer = tt {0}; carry = changes path m k n (record { inode = d; index = x }) before begins.0.0.0 begins.0.0.1 i })
 
-    same_slot : let p : handlers.P Slotted = slot_of (c n) e in p ≡ Ret (s, index_of v)
+    same_slot : let p : handlers.P Slotted = slot_of sizes.version (c n) e in p ≡ Ret (s, index_of v)
     same_slot =
-        ap (λ (y : Had). let p : handlers.P Slotted = slot_of y e in p) (had_is path m n before begins.0.0.0)
-        ∙ found_slot_of path e (note_at k m) v begins.1 (loaded_there k before begins.0.1)
+        ap (λ (y : Had). let p : handlers.P Slotted = slot_of sizes.version y e in p) (had_is path m n before begins.0.0.0)
+        ∙ found_slot_of sizes.version path e (note_at k m) v begins.1 (loaded_there k before begins.0.1)
 
-    pub clear_is_part : clear_left p.clear before ≡ put_entry sizes.inodestart n (record_of v) s Free → IsPart sizes c (above.Clear n e) (clear_part_left path m p before)
+    pub clear_is_part : clear_left p.clear before ≡ put_entry sizes.version sizes.inodestart n (record_of v) s Free → IsPart sizes c (above.Clear n e) (clear_part_left path m p before)
     clear_is_part program mark =
         (λ i. plain (bind (same_slot i) (clear_slot sizes n e c mark)))
         ∙ slot_so mark
-        ∙ (λ i. bind (put_entry sizes.inodestart n (record_of (lock_is path m n before begins.0.0.0 i)) s Free) over)
+        ∙ (λ i. bind (put_entry sizes.version sizes.inodestart n (record_of (lock_is path m n before begins.0.0.0 i)) s Free) over)
         ∙ (λ i. bind (sym program i) (λ d. same_over d i))
         ∙ sym (bind-assoc (clear_left p.clear before) (cleared_at path m k s before) (λ r. Ret (record { answer = tt {0}; carry = r.carry })))
         ∙ (λ i. bind (bind (clear_left p.clear before) (cleared_at path m (sym seat i) (sym slot i) before)) (λ r. Ret (record { answer = tt {0}; carry = r.carry })))

@@ -1,8 +1,8 @@
 -- A name entered: it is a part, and goes on.
-use Rattle.inode_parts.proofs.Vocabulary.{◌≡◌, ℕ, zero, suc, ◌+◌, ◌-◌, ◌*◌, ◌==◌, ◌<◌, ◌≤◌, nat_lt, take, Bool, true, false, if◌then◌else◌, List, length, Option, Some, None, refl, sym, ◌∙◌, ap, subst, arith, is_some, nat_tests, Used, Dinode, Super, spell_dirent, Name, put, Ret, Do, bind, plain, Handover, bind-assoc, IndexState, Inode, Loaded, loaded_of, P, inode_block, store_inode, Address, Direct, InTable, address, blocks_between, fetch_at, fetch_block, WriteResult, grown, store_written, write_blocks, write_part, Room, Found, Searched, EnteredState, code_enter, enter_at, code_enter_in, entered_by, entered_if, first_of, or_next, with_entry, slot_for, Unused, block_count, look_at, search, search_from, slot_count, Hand, InodePlace, Goes, inode_in, goes_with, enter_left, enter_seat, beside_index, few_known, entered_to, put_grown, seek_free, acts, NothingMore, Carry, Has, carry_index, record_had, carry_in, enter_part_left, entered, entered_so, HasLock, seat_of_lock, IsPart, Part, Notes, EnterPart, dirent_len, most_slots}
+use Rattle.inode_parts.proofs.Vocabulary.{◌≡◌, ℕ, zero, suc, ◌+◌, ◌-◌, ◌*◌, ◌==◌, ◌<◌, ◌≤◌, nat_lt, take, Bool, true, false, if◌then◌else◌, List, length, Option, Some, None, refl, sym, ◌∙◌, ap, subst, arith, is_some, nat_tests, Used, Dinode, Super, spell_dirent, Name, put, Ret, Do, bind, plain, Handover, bind-assoc, IndexState, Inode, Loaded, loaded_of, P, inode_block, store_inode, Address, Direct, InTable, address, blocks_between, fetch_at, fetch_block, WriteResult, grown, store_written, write_blocks, write_part, Room, Found, Searched, EnteredState, code_enter, enter_at, code_enter_in, entered_by, entered_if, first_of, or_next, with_entry, slot_for, Unused, block_count, look_at, search, search_from, slot_count, Hand, InodePlace, Goes, inode_in, goes_with, enter_left, enter_seat, beside_index, entered_to, put_grown, seek_free, acts, NothingMore, Carry, Has, carry_index, record_had, carry_in, enter_part_left, entered, entered_so, HasLock, seat_of_lock, IsPart, Part, Notes, EnterPart, Version, dirent_len_of, most_slots}
 use Rattle.std.specs.Prelude.{min}
 use Rattle.atomic_programs.specs.Prog.{asks}
-use Rattle.directory.specs.Indexes.{first_gap, free_below, slots_known}
+use Rattle.directory.specs.Indexes.{first_gap, free_below, index_room, slots_known}
 use Rattle.fs_machine.specs.Steps as steps
 use Rattle.directory.specs.declared.enter.Room.TheVariants as room
 use Rattle.inode_machine.specs.World as above
@@ -10,7 +10,7 @@ use Rattle.inodes_on_blocks.specs.Handlers as handlers
 use Rattle.path_walk.specs.Asks as whole
 use Rattle.path_walk.specs.declared.asks.Entered.TheVariants as entry
 use Rattle.path_walk.specs.declared.asks.Heard.TheVariants as heard
-use Rattle.inode_parts.proofs.Basics.{lock_is, changed_over, changes, indexed_over, indexes, plain_seek, plain_writes, then_plain}
+use Rattle.inode_parts.proofs.Basics.{lock_is, changed_over, changes, indexed_over, indexes, blocks_few, blocks_full, plain_seek, plain_writes, then_plain}
 use Rattle.inode_parts.proofs.Stores.{put_so}
 
 -- the record goes back after its blocks were written, whatever that is marked with
@@ -29,7 +29,7 @@ module _ (sizes : Super) (path : List ℕ) (m : Notes) (n : ℕ) (e : Name) (q :
   c = carry_in path m before
 
   abbrev bytes : List ℕ
-  bytes = spell_dirent (Used q e)
+  bytes = spell_dirent sizes.version (Used q e)
 
   -- what the operation hands over
   abbrev answer_of : Room → above.EntryResult
@@ -47,40 +47,40 @@ module _ (sizes : Super) (path : List ℕ) (m : Notes) (n : ℕ) (e : Name) (q :
 
   -- the handler's program, of this record
   module _ (mark : above.EntryResult → Option above.Mark) where
-    writes_so : (x : IndexState) (slot : ℕ) (w : WriteResult) → plain (entered_to sizes n e q c mark x slot w) ≡ bind (store_written sizes n w) (λ r. bind (entered_by slot bytes x r) rest)
-    writes_so x slot w = by (w.upto == dirent_len * (slot + 1)) ∙ sym (bind-assoc (store_inode sizes.inodestart n (grown w)) (λ _. Ret (record { inode = grown w; upto = w.upto })) (λ r. bind (entered_by slot bytes x r) rest))
+    writes_so : (x : IndexState) (slot : ℕ) (w : WriteResult) → plain (entered_to sizes n e q c mark x slot w) ≡ bind (store_written sizes n w) (λ r. bind (entered_by sizes.version slot bytes x r) rest)
+    writes_so x slot w = by (w.upto == dirent_len_of sizes.version * (slot + 1)) ∙ sym (bind-assoc (store_inode sizes.inodestart n (grown w)) (λ _. Ret (record { inode = grown w; upto = w.upto })) (λ r. bind (entered_by sizes.version slot bytes x r) rest))
       where
-        by : (t : Bool) → plain (if t then put_grown (above.Enter n e q) above.Room mark above.InPlace sizes n c (with_entry slot bytes x) w else put_grown (above.Enter n e q) (above.RoomFor 0) mark above.NoBlock sizes n c x w)
-            ≡ bind (store_inode sizes.inodestart n (grown w)) (λ _. rest (entered_if slot bytes x (grown w) t))
-        by true = grown_so sizes n (above.Enter n e q) above.Room mark above.InPlace c (with_entry slot bytes x) w
+        by : (t : Bool) → plain (if t then put_grown (above.Enter n e q) above.Room mark above.InPlace sizes n c (with_entry sizes.version slot bytes x) w else put_grown (above.Enter n e q) (above.RoomFor 0) mark above.NoBlock sizes n c x w)
+            ≡ bind (store_inode sizes.inodestart n (grown w)) (λ _. rest (entered_if sizes.version slot bytes x (grown w) t))
+        by true = grown_so sizes n (above.Enter n e q) above.Room mark above.InPlace c (with_entry sizes.version slot bytes x) w
         by false = grown_so sizes n (above.Enter n e q) (above.RoomFor 0) mark above.NoBlock c x w
 
     module _ (d : Dinode) where
       -- into this slot, with this index
       abbrev slot_in : IndexState → ℕ → handlers.P (Handover above.EntryResult Carry)
       slot_in x slot =
-          if nat_lt slot most_slots then bind (write_blocks (blocks_between (dirent_len * slot) (dirent_len * slot + length bytes)) sizes (dirent_len * slot) bytes d) (entered_to sizes n e q c mark x slot)
+          if nat_lt slot (most_slots sizes.version) then bind (write_blocks (blocks_between (dirent_len_of sizes.version * slot) (dirent_len_of sizes.version * slot + length bytes)) sizes (dirent_len_of sizes.version * slot) bytes d) (entered_to sizes n e q c mark x slot)
           else Ret (record { answer = above.NoSlot; carry = carry_index c n x })
 
       slot_so : (x : IndexState) (slot : ℕ) → plain (slot_in x slot) ≡ bind (code_enter_in sizes n d bytes x slot) rest
-      slot_so x slot = by (nat_lt slot most_slots)
+      slot_so x slot = by (nat_lt slot (most_slots sizes.version))
         where
           count : ℕ
-          count = blocks_between (dirent_len * slot) (dirent_len * slot + length bytes)
+          count = blocks_between (dirent_len_of sizes.version * slot) (dirent_len_of sizes.version * slot + length bytes)
 
-          by : (t : Bool) → plain (if t then bind (write_blocks count sizes (dirent_len * slot) bytes d) (entered_to sizes n e q c mark x slot) else Ret (record { answer = above.NoSlot; carry = carry_index c n x }))
-              ≡ bind (if t then bind (write_part sizes n d (dirent_len * slot) bytes) (entered_by slot bytes x) else Ret (record { inode = d; room = room.NoSlot; index = x })) rest
+          by : (t : Bool) → plain (if t then bind (write_blocks count sizes (dirent_len_of sizes.version * slot) bytes d) (entered_to sizes n e q c mark x slot) else Ret (record { answer = above.NoSlot; carry = carry_index c n x }))
+              ≡ bind (if t then bind (write_part sizes n d (dirent_len_of sizes.version * slot) bytes) (entered_by sizes.version slot bytes x) else Ret (record { inode = d; room = room.NoSlot; index = x })) rest
           by true =
-              then_plain (write_blocks count sizes (dirent_len * slot) bytes d) (write_blocks count sizes (dirent_len * slot) bytes d) (entered_to sizes n e q c mark x slot) (λ w. bind (store_written sizes n w) (λ r. bind (entered_by slot bytes x r) rest))
-              (plain_writes count sizes (dirent_len * slot) bytes d) (writes_so x slot)
-              ∙ sym (bind-assoc (write_part sizes n d (dirent_len * slot) bytes) (entered_by slot bytes x) rest ∙ bind-assoc (write_blocks count sizes (dirent_len * slot) bytes d) (store_written sizes n) (λ r. bind (entered_by slot bytes x r) rest))
+              then_plain (write_blocks count sizes (dirent_len_of sizes.version * slot) bytes d) (write_blocks count sizes (dirent_len_of sizes.version * slot) bytes d) (entered_to sizes n e q c mark x slot) (λ w. bind (store_written sizes n w) (λ r. bind (entered_by sizes.version slot bytes x r) rest))
+              (plain_writes count sizes (dirent_len_of sizes.version * slot) bytes d) (writes_so x slot)
+              ∙ sym (bind-assoc (write_part sizes n d (dirent_len_of sizes.version * slot) bytes) (entered_by sizes.version slot bytes x) rest ∙ bind-assoc (write_blocks count sizes (dirent_len_of sizes.version * slot) bytes d) (store_written sizes n) (λ r. bind (entered_by sizes.version slot bytes x r) rest))
           by false = refl
 
-    enter_so : (l : Loaded) → plain (bind (seek_free (acts (above.Enter n e q) above.Room mark) l) (λ o. slot_in l.inode o.index (slot_for l.inode o.found))) ≡ bind (code_enter sizes n l q e) rest
+    enter_so : (l : Loaded) → plain (bind (seek_free sizes.version (acts (above.Enter n e q) above.Room mark) l) (λ o. slot_in l.inode o.index (slot_for sizes.version l.inode o.found))) ≡ bind (code_enter sizes n l q e) rest
     enter_so l =
-        then_plain (seek_free (acts (above.Enter n e q) above.Room mark) l) (search Unused l) (λ o. slot_in l.inode o.index (slot_for l.inode o.found)) (λ o. bind (enter_at sizes n l.inode bytes o) rest)
-        (plain_seek (acts (above.Enter n e q) above.Room mark) l) (λ o. slot_so l.inode o.index (slot_for l.inode o.found))
-        ∙ sym (bind-assoc (search Unused l) (enter_at sizes n l.inode bytes) rest)
+        then_plain (seek_free sizes.version (acts (above.Enter n e q) above.Room mark) l) (search sizes.version Unused l) (λ o. slot_in l.inode o.index (slot_for sizes.version l.inode o.found)) (λ o. bind (enter_at sizes n l.inode bytes o) rest)
+        (plain_seek sizes.version (acts (above.Enter n e q) above.Room mark) l) (λ o. slot_so l.inode o.index (slot_for sizes.version l.inode o.found))
+        ∙ sym (bind-assoc (search sizes.version Unused l) (enter_at sizes n l.inode bytes) rest)
 
   module _ (p : EnterPart) (has : HasLock n before) (seat : enter_seat p.enter ≡ k) where
     abbrev had : Inode
@@ -120,22 +120,22 @@ fetch_asks d (Direct i) = refl
 fetch_asks d (InTable i) = refl
 
 module _ (sizes : Super) (n : ℕ) (d : Dinode) (bytes : List ℕ) where
-  slot_asks : (x : IndexState) (slot : ℕ) → nat_lt slot most_slots ≡ true → Asks (code_enter_in sizes n d bytes x slot)
+  slot_asks : (x : IndexState) (slot : ℕ) → nat_lt slot (most_slots sizes.version) ≡ true → Asks (code_enter_in sizes n d bytes x slot)
   slot_asks x slot fits =
-      let p : P WriteResult = write_part sizes n d (dirent_len * slot) bytes in
-      let count : ℕ = blocks_between (dirent_len * slot) (dirent_len * slot + length bytes) in
-      let some : Asks p = goes_on_so (write_blocks count sizes (dirent_len * slot) bytes d) (store_written sizes n) (λ w. refl) in
-      subst (λ (t : Bool). let q : P EnteredState = if t then bind p (entered_by slot bytes x) else Ret (record { inode = d; room = room.NoSlot; index = x }) in Asks q) (sym fits) (begins_so p (entered_by slot bytes x) some)
+      let p : P WriteResult = write_part sizes n d (dirent_len_of sizes.version * slot) bytes in
+      let count : ℕ = blocks_between (dirent_len_of sizes.version * slot) (dirent_len_of sizes.version * slot + length bytes) in
+      let some : Asks p = goes_on_so (write_blocks count sizes (dirent_len_of sizes.version * slot) bytes d) (store_written sizes n) (λ w. refl) in
+      subst (λ (t : Bool). let q : P EnteredState = if t then bind p (entered_by sizes.version slot bytes x) else Ret (record { inode = d; room = room.NoSlot; index = x }) in Asks q) (sym fits) (begins_so p (entered_by sizes.version slot bytes x) some)
 
   -- if no block is left to be searched it has room for one slot more
-  search_asks : (count k : ℕ) (x : IndexState) → (count ≡ 0 → slot_count d < most_slots) → let p : P Searched = search_from count Unused d k x in Asks (bind p (enter_at sizes n d bytes))
+  search_asks : (count k : ℕ) (x : IndexState) → (count ≡ 0 → slot_count sizes.version d < most_slots sizes.version) → let p : P Searched = search_from sizes.version count Unused d k x in Asks (bind p (enter_at sizes n d bytes))
   unfolding search_from
   search_asks zero k x room =
-      let few : slot_count d < most_slots = room refl in
-      slot_asks x (slot_count d) (grind (arith, nat_tests, few))
+      let few : slot_count sizes.version d < most_slots sizes.version = room refl in
+      slot_asks x (slot_count sizes.version d) (grind (arith, nat_tests, few))
   search_asks (suc count) k x room =
-      let p : P Searched = bind (fetch_block d k) (look_at Unused d k x (search_from count Unused d (k + 1))) in
-      begins_so p (enter_at sizes n d bytes) (begins_so (fetch_block d k) (look_at Unused d k x (search_from count Unused d (k + 1))) (fetch_asks d (address k)))
+      let p : P Searched = bind (fetch_block d k) (look_at sizes.version Unused d k x (search_from sizes.version count Unused d (k + 1))) in
+      begins_so p (enter_at sizes n d bytes) (begins_so (fetch_block d k) (look_at sizes.version Unused d k x (search_from sizes.version count Unused d (k + 1))) (fetch_asks d (address k)))
 
 -- a slot that the index has free is one that a directory may have
 below_found : (limit s : ℕ) (f : Found) → free_below limit s ≡ Some f → f.slot < limit
@@ -149,31 +149,31 @@ below_found limit s f e = by (nat_lt s limit) refl e
         grind (arith, nat_tests, lt, is)
     by false lt e = absurd (cc e)
 
-free_within : (l : Loaded) (f : Found) → first_of Unused l.inode l.index ≡ Some f → f.slot < most_slots
+free_within : (v : Version) (l : Loaded) (f : Found) → first_of v Unused l.inode l.index ≡ Some f → f.slot < most_slots v
 unfolding first_of
-free_within l f e =
-    let lt : f.slot < min (slots_known l.index) (slot_count l.inode) = below_found (min (slots_known l.index) (slot_count l.inode)) (first_gap 0 (take 64 l.index.slots)) f e in
+free_within v l f e =
+    let lt : f.slot < min (slots_known v l.index) (slot_count v l.inode) = below_found (min (slots_known v l.index) (slot_count v l.inode)) (first_gap 0 (take index_room l.index.slots)) f e in
     omega (arith, lt)
 
 module _ (sizes : Super) (n : ℕ) (l : Loaded) (bytes : List ℕ) where
   abbrev left : ℕ
-  left = block_count l.inode - l.index.blocks
+  left = block_count sizes.version l.inode - l.index.blocks
 
-  known_asks : (o : Option Found) → first_of Unused l.inode l.index ≡ o → let p : P Searched = or_next o l.index (search_from left Unused l.inode l.index.blocks) in Asks (bind p (enter_at sizes n l.inode bytes))
-  known_asks (Some f) is = let within : f.slot < most_slots = free_within l f is in slot_asks sizes n l.inode bytes l.index f.slot (grind (arith, nat_tests, within))
-  known_asks None is = search_asks sizes n l.inode bytes left l.index.blocks l.index (λ none. by (nat_lt (slot_count l.inode) most_slots) refl none)
+  known_asks : (o : Option Found) → first_of sizes.version Unused l.inode l.index ≡ o → let p : P Searched = or_next o l.index (search_from sizes.version left Unused l.inode l.index.blocks) in Asks (bind p (enter_at sizes n l.inode bytes))
+  known_asks (Some f) is = let within : f.slot < most_slots sizes.version = free_within sizes.version l f is in slot_asks sizes n l.inode bytes l.index f.slot (grind (arith, nat_tests, within))
+  known_asks None is = search_asks sizes n l.inode bytes left l.index.blocks l.index (λ none. by (nat_lt (slot_count sizes.version l.inode) (most_slots sizes.version)) refl none)
     where
-      by : (b : Bool) → nat_lt (slot_count l.inode) most_slots ≡ b → left ≡ 0 → slot_count l.inode < most_slots
+      by : (b : Bool) → nat_lt (slot_count sizes.version l.inode) (most_slots sizes.version) ≡ b → left ≡ 0 → slot_count sizes.version l.inode < most_slots sizes.version
       by true lt none = grind (arith, nat_tests, lt)
       by false ge none =
-          let many : most_slots ≤ slot_count l.inode = grind (arith, nat_tests, ge) in
-          let full : slot_count l.inode ≡ most_slots = omega (arith, many) in
-          let few : l.index.blocks ≤ 1 = few_known l full is in
-          absurd (omega (arith, few, full, none))
+          let many : most_slots sizes.version ≤ slot_count sizes.version l.inode = grind (arith, nat_tests, ge) in
+          let full : slot_count sizes.version l.inode ≡ most_slots sizes.version = omega (arith, many) in
+          let few : l.index.blocks ≤ 2 = blocks_few sizes.version l full is in
+          absurd (omega (arith, few, blocks_full sizes.version l.inode full, none))
 
 pub never_over : (sizes : Super) (n : ℕ) (l : Loaded) (q : ℕ) (e : Name) (r : EnteredState) → let p : P EnteredState = Ret r in p ≡ code_enter sizes n l q e → ⊥
 never_over sizes n l q e r over =
-    let some : Asks (code_enter sizes n l q e) = known_asks sizes n l (spell_dirent (Used q e)) (first_of Unused l.inode l.index) refl in
+    let some : Asks (code_enter sizes n l q e) = known_asks sizes n l (spell_dirent sizes.version (Used q e)) (first_of sizes.version Unused l.inode l.index) refl in
     let none : is_some (asks (let p : P EnteredState = Ret r in p)) ≡ true = subst Asks (sym over) some in
     absurd (cc none)
 

@@ -1,5 +1,5 @@
 -- The names of a new directory written: it is a part, and goes on.
-use Rattle.inode_parts.proofs.Vocabulary.{◌≡◌, ℕ, ◌+◌, ◌*◌, ◌==◌, Bool, true, false, if◌then◌else◌, List, length, Option, sym, ◌∙◌, subst, put, Dinode, Super, Ret, bind, plain, Handover, bind-assoc, Inode, unindexed, P, record_of, store_inode, blocks_between, WriteResult, grown, store_written, write_blocks, write_part, Hand, InodePlace, Goes, inode_in, with_index, with_record, IsLoadedAt, goes_with, dots, fill_names, fill_left, filled_by, beside_buffers, Filled, put_grown, NothingMore, Carry, Has, no_index, record_had, carry_in, handed, with_note, fill_part_left, filled, HasLock, seat_of_lock, IsPart, Part, Notes, FillPart, dirent_len}
+use Rattle.inode_parts.proofs.Vocabulary.{◌≡◌, ℕ, ◌+◌, ◌==◌, Bool, true, false, if◌then◌else◌, List, length, Option, sym, ◌∙◌, subst, put, Dinode, Super, Ret, bind, plain, Handover, bind-assoc, Inode, unindexed, P, record_of, store_inode, blocks_between, WriteResult, grown, store_written, write_blocks, write_part, Hand, InodePlace, Goes, inode_in, with_index, with_record, IsLoadedAt, goes_with, dots, fill_names, fill_left, filled_by, beside_buffers, Filled, put_grown, NothingMore, Carry, Has, no_index, record_had, carry_in, handed, with_note, fill_part_left, filled, HasLock, seat_of_lock, IsPart, Part, Notes, FillPart, new_directory_size_of}
 use Rattle.fs_machine.specs.Steps as steps
 use Rattle.inode_machine.specs.World as above
 use Rattle.inodes_on_blocks.specs.Entering.{filled_to}
@@ -25,22 +25,22 @@ module _ (sizes : Super) (path : List ℕ) (m : Notes) (n parent : ℕ) (before 
 
   -- the handler's program, of this record
   module _ (mark : Bool → Option above.Mark) where
-    writes_so : (w : WriteResult) → plain (filled_to sizes n parent c mark w) ≡ bind (store_written sizes n w) (λ r. bind (filled_by r) rest)
-    writes_so w = by (w.upto == 2 * dirent_len) ∙ sym (bind-assoc (store_inode sizes.inodestart n (grown w)) (λ _. Ret (record { inode = grown w; upto = w.upto })) (λ r. bind (filled_by r) rest))
+    writes_so : (w : WriteResult) → plain (filled_to sizes n parent c mark w) ≡ bind (store_written sizes n w) (λ r. bind (filled_by sizes.version r) rest)
+    writes_so w = by (w.upto == new_directory_size_of sizes.version) ∙ sym (bind-assoc (store_inode sizes.inodestart n (grown w)) (λ _. Ret (record { inode = grown w; upto = w.upto })) (λ r. bind (filled_by sizes.version r) rest))
       where
         by : (t : Bool) → plain (if t then put_grown (above.Fill n parent) above.Room mark true sizes n c no_index w else put_grown (above.Fill n parent) (above.RoomFor 0) mark false sizes n c no_index w)
             ≡ bind (store_inode sizes.inodestart n (grown w)) (λ _. rest (record { inode = grown w; whole = t }))
         by true = grown_so sizes n (above.Fill n parent) above.Room mark true c no_index w
         by false = grown_so sizes n (above.Fill n parent) (above.RoomFor 0) mark false c no_index w
 
-    fill_so : (d : Dinode) → plain (bind (write_blocks (blocks_between 0 (0 + length (dots n parent))) sizes 0 (dots n parent) d) (filled_to sizes n parent c mark)) ≡ bind (fill_names sizes n d parent) rest
+    fill_so : (d : Dinode) → plain (bind (write_blocks (blocks_between 0 (0 + length (dots sizes.version n parent))) sizes 0 (dots sizes.version n parent) d) (filled_to sizes n parent c mark)) ≡ bind (fill_names sizes n d parent) rest
     fill_so d =
-        then_plain (write_blocks count sizes 0 (dots n parent) d) (write_blocks count sizes 0 (dots n parent) d) (filled_to sizes n parent c mark) (λ w. bind (store_written sizes n w) (λ r. bind (filled_by r) rest))
-        (plain_writes count sizes 0 (dots n parent) d) writes_so
-        ∙ sym (bind-assoc (write_part sizes n d 0 (dots n parent)) filled_by rest ∙ bind-assoc (write_blocks count sizes 0 (dots n parent) d) (store_written sizes n) (λ r. bind (filled_by r) rest))
+        then_plain (write_blocks count sizes 0 (dots sizes.version n parent) d) (write_blocks count sizes 0 (dots sizes.version n parent) d) (filled_to sizes n parent c mark) (λ w. bind (store_written sizes n w) (λ r. bind (filled_by sizes.version r) rest))
+        (plain_writes count sizes 0 (dots sizes.version n parent) d) writes_so
+        ∙ sym (bind-assoc (write_part sizes n d 0 (dots sizes.version n parent)) (filled_by sizes.version) rest ∙ bind-assoc (write_blocks count sizes 0 (dots sizes.version n parent) d) (store_written sizes n) (λ r. bind (filled_by sizes.version r) rest))
       where
         count : ℕ
-        count = blocks_between 0 (0 + length (dots n parent))
+        count = blocks_between 0 (0 + length (dots sizes.version n parent))
 
   module _ (p : FillPart) (has : HasLock n before) (seat : p.seat ≡ k) where
     abbrev had : Inode

@@ -30,9 +30,9 @@ step_has path m step.Join h = tt
 step_has path m step.Say h = tt
 
 take_has : (path : List ℕ) (m : Notes) (p : TakePart) (h : Hand) → HasOne (take_left path m p h)
-take_has path m (take.Locking q r) h = first (lock_left r h) _ (lock_has r h)
-take_has path m (take.Naming k e s) h = first (search_left _ _ s h) _ (search_has _ _ s h)
-take_has path m (take.Listing k s) h = first (search_left _ _ s h) _ (search_has _ _ s h)
+take_has path m (take.Locking v q r) h = first (lock_left r h) _ (lock_has r h)
+take_has path m (take.Naming v k e s) h = first (search_left _ _ _ s h) _ (search_has _ _ _ s h)
+take_has path m (take.Listing v k s) h = first (search_left _ _ _ s h) _ (search_has _ _ _ s h)
 
 relock_has : (path : List ℕ) (m : Notes) (p : RelockPart) (h : Hand) → HasOne (relock_left path m p h)
 relock_has path m (relock.Locking k i) h = tt

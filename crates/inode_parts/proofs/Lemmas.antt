@@ -1,5 +1,5 @@
 -- What the proofs of this crate's functions use: its lemmas, and what they speak of.
-pub use Rattle.inode_parts.proofs.Vocabulary.{Ask, AskTold, BeginsWith, Bool, Carry, Comes, Dinode, Emptying, EnteredState, Entry, Face, FillsAs, FillsFrom, Free, Goes, GoesOrLeaves, HasRoomFor, Having, Heard, IfSome, InodePart, IsAfter, IsAlone, IsAmid, IsLoadedAt, IsOnWay, IsPart, Leaves, Loaded, List, Locks, Name, Named, None, Option, P, Part, PartReady, PartTold, Place, Query, ReadFilePart, ReadsInto, Refuses, RelockPart, RelockReady, Reply, Ret, InodePlace, Searched, Sees, Some, Take, TakePart, UnderWay, WholeFits, WriteFilePart, WriteFileReady, [], answer_to, ap, append-nil, arith, beside_buffers, beside_emptying, beside_in, emptying_of, freeing-kept, beside_inode, beside_new, bind, call_in, carry_in, code_enter as enter, counted, drop, empty_seat, enter_seat, enter_left, enter_part_left, entered, face_by, face_unless_free, file_ends, file_left, file_seat, fill_left, fill_names as fill, filled, filled_to, found_with, free_ends, free_seat, freeing_left, handed, having, hears, index_at, inode_at, inode_in, is_some, left_after, length, listed_ends, loaded-there, loaded_in, lock_file_left, lock_left, lock_loaded, lock_seat, looked, lookup, name_in, named_ends, new_left, new_value, no_index, not, note_at, note_of, number_at, number_found, number_in, open_ends, open_left, open_seat, other, part_left, part_left_after, piece, program, put_entry, query_in, read_file_left, read_left, record_in, record_left, record_place, reference_at, refl, relock_left, search_left, seat_of_lock, second_in, slot_in, type_of, stat_ends, stat_left, step_for, store_inode as store, subst, sym, take, take_left, text_in, true, truncate, truncate_left, unindexed, whole_of, whole_with, with_first, with_record, with_text, write_file_left, write_left, write_over, ℕ, ◌*◌, ◌++◌, ◌-◌, ◌<◌, ◌^◌, ◌∙◌, ◌≡◌}
+pub use Rattle.inode_parts.proofs.Vocabulary.{Ask, AskTold, BeginsWith, Bool, Carry, Comes, Dinode, Emptying, EnteredState, Entry, Face, FillsAs, FillsFrom, Free, Goes, GoesOrLeaves, HasRoomFor, Having, Heard, IfSome, InodePart, IsAfter, IsAlone, IsAmid, IsLoadedAt, IsOnWay, IsPart, Leaves, Loaded, List, Locks, Name, Named, None, Option, P, Part, PartReady, PartTold, Place, Query, ReadFilePart, ReadsInto, Refuses, RelockPart, RelockReady, Reply, Ret, InodePlace, IsSlot, Searched, Sees, Some, Take, TakePart, UnderWay, Version, WholeFits, WriteFilePart, WriteFileReady, [], answer_to, ap, append-nil, arith, beside_buffers, beside_emptying, beside_in, emptying_of, freeing-kept, beside_inode, beside_new, bind, call_in, carry_in, code_enter as enter, counted, drop, empty_seat, enter_seat, enter_left, enter_part_left, entered, face_by, face_unless_free, file_ends, file_left, file_seat, fill_left, fill_names as fill, filled, filled_to, found_with, free_ends, free_seat, freeing_left, handed, having, hears, index_at, inode_at, inode_in, is_some, left_after, length, listed_ends, loaded-there, loaded_in, lock_file_left, lock_left, lock_loaded, lock_seat, looked, lookup, name_in, named_ends, new_left, new_value, no_index, not, note_at, note_of, number_at, number_found, number_in, only_seen, open_ends, open_left, open_seat, other, part_left, part_left_after, piece, program, put_entry, query_in, read_file_left, read_left, record_in, record_left, record_place, reference_at, refl, relock_left, search_left, seat_of_lock, second_in, slot_in, type_of, stat_ends, stat_left, step_for, store_inode as store, subst, sym, take, take_left, text_in, true, truncate, truncate_left, unindexed, whole_of, whole_with, with_first, with_record, with_text, write_file_left, write_left, write_over, ℕ, ◌*◌, ◌++◌, ◌-◌, ◌<◌, ◌^◌, ◌∙◌, ◌≡◌}
 unfoldable pub use Rattle.inode_parts.proofs.Vocabulary.{answer_in, cleared}
 pub use Rattle.inode_parts.specs.Vocabulary.{Writes as WriteFile, asks, entered_as, file_asked, first_in, freeing_asked, lock_asked, new_asked, new_seat, op_in, open_asked, piece_len, read_asked, reply_to, search_asked, write_asked}
 pub use Rattle.inodes_on_blocks.proofs.Vocabulary.{Enter, drop_all, min, replicate, rules, take_all}

@@ -31,7 +31,7 @@ module _ (sizes : Super) (path : List ℕ) (m : Notes) (h : Hand) where
 
   -- a call begins, or goes on with its next operation
   pub begins_so : (p : above.P Reply) (op : Op) (q : Part) → asks p ≡ Some op → IsPart sizes c op q → lowered sizes c p ≡ with_part sizes q p
-  begins_so p op q e is = part_begins machine (below sizes) (handlers sizes) answer_by c p op q (same_asks p ∙ e) is
+  begins_so p op q e is = part_begins (machine sizes.version) (below sizes) (handlers sizes) answer_by c p op q (same_asks p ∙ e) is
 
   module _ (q : Part) (p : List ℕ → above.P Reply) (x : Heard) (answer : (o : steps.Op) → steps.Answer o) (went : Goes q answer (Ret (handed path m x h))) where
     heard_so : (p' : above.P Reply) → hears path (p path) x ≡ p' → Goes (with_text sizes q p) answer (lowered sizes c p')

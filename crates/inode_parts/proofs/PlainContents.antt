@@ -1,6 +1,8 @@
 -- Contents written and directories searched: without marks the programs are the code's.
+use Rattle.image_versions.proofs.Places.{in_range, take_blocks, whole_blocks}
 use Rattle.inode_data.specs.Widths.{most_blocks}
-use Rattle.inode_parts.proofs.Vocabulary.{◌≡◌, ℕ, zero, suc, ◌+◌, ◌-◌, ◌/◌, ◌≤◌, ◌==◌, nat_lt, Bool, true, false, if◌then◌else◌, List, length, drop, Option, Some, None, refl, ◌∙◌, ap, arith, slice_index, nat_tests, Dinode, Super, numbers_in, block_len, Ret, Do, bind, plain, unmarked, plain-bind, fetch, marked_by, first_clear_below, give_zeros, take_first, zero_found, Address, Direct, InTable, address, table_of, fetch_block, direct, WriteResult, front_of, locate, locate_at, locate_in_table, located, look_up, name_direct, name_in_table, put_part, take_one, with_address, with_table, write_blocks, write_in, write_located, Found, Aim, Unused, block_count, found_in, look_at, or_next, search, search_from, slot_count, look_last, search_full, seek_free, seek_full, Acts, IndexState, Loaded, Searched, few_known, first_of, raised, most_slots}
+use Rattle.inode_parts.proofs.Vocabulary.{◌≡◌, ℕ, zero, suc, ◌+◌, ◌-◌, ◌/◌, ◌≤◌, ◌==◌, nat_lt, Bool, true, false, if◌then◌else◌, List, length, drop, Option, Some, None, refl, ◌∙◌, ap, arith, slice_index, nat_tests, Dinode, Super, numbers_in, block_len, Ret, Do, bind, plain, unmarked, plain-bind, fetch, marked_by, first_clear_below, give_zeros, take_first, zero_found, Address, Direct, InTable, address, table_of, fetch_block, direct, WriteResult, front_of, locate, locate_at, locate_in_table, located, look_up, name_direct, name_in_table, put_part, take_one, with_address, with_table, write_blocks, write_in, write_located, Found, Aim, Unused, block_count, found_in, look_at, or_next, search, search_from, slot_count, look_last, search_full, seek_free, seek_full, Acts, IndexState, Loaded, Searched, few_known, first_of, raised, most_slots, Version, dirents_per_block_of}
+use Rattle.std.proofs.Math.Nat.{mul-le-mul_right}
 use Rattle.fs_machine.specs.Machines as code
 use Rattle.fs_machine.specs.Steps as steps
 use Rattle.inode_data.specs.Writing.{with_part}
@@ -16,17 +18,17 @@ pub plain_or_next : (o : Option Found) (x : IndexState) (p : IndexState → P Se
 plain_or_next (Some f) x p q same = refl
 plain_or_next None x p q same = same x
 
-plain_search_from : (n : ℕ) (aim : Aim) (d : Dinode) (k : ℕ) (x : IndexState) → plain (search_from {M = Acts} n aim d k x) ≡ search_from n aim d k x
+plain_search_from : (v : Version) (n : ℕ) (aim : Aim) (d : Dinode) (k : ℕ) (x : IndexState) → plain (search_from {M = Acts} v n aim d k x) ≡ search_from v n aim d k x
 unfolding search_from
-plain_search_from zero aim d k x = refl
-plain_search_from (suc n) aim d k x =
-    then_plain (fetch_block d k) (fetch_block d k) (look_at aim d k x (search_from n aim d (k + 1))) (look_at aim d k x (search_from n aim d (k + 1))) (plain_block d k)
-    (λ f. λ i. Do (steps.Put f.number None) unmarked (λ _. plain_or_next (found_in aim d k f.bytes) (raised d k f.bytes x) (search_from n aim d (k + 1)) (search_from n aim d (k + 1)) (plain_search_from n aim d (k + 1)) i))
+plain_search_from v zero aim d k x = refl
+plain_search_from v (suc n) aim d k x =
+    then_plain (fetch_block d k) (fetch_block d k) (look_at v aim d k x (search_from v n aim d (k + 1))) (look_at v aim d k x (search_from v n aim d (k + 1))) (plain_block d k)
+    (λ f. λ i. Do (steps.Put f.number None) unmarked (λ _. plain_or_next (found_in v aim d k f.bytes) (raised v d k f.bytes x) (search_from v n aim d (k + 1)) (search_from v n aim d (k + 1)) (plain_search_from v n aim d (k + 1)) i))
 
-pub plain_search : (aim : Aim) (l : Loaded) → plain (search {M = Acts} aim l) ≡ search aim l
-plain_search aim l =
+pub plain_search : (v : Version) (aim : Aim) (l : Loaded) → plain (search {M = Acts} v aim l) ≡ search v aim l
+plain_search v aim l =
     let b : ℕ = l.index.blocks in
-    plain_or_next (first_of aim l.inode l.index) l.index (search_from (block_count l.inode - b) aim l.inode b) (search_from (block_count l.inode - b) aim l.inode b) (plain_search_from (block_count l.inode - b) aim l.inode b)
+    plain_or_next (first_of v aim l.inode l.index) l.index (search_from v (block_count v l.inode - b) aim l.inode b) (search_from v (block_count v l.inode - b) aim l.inode b) (plain_search_from v (block_count v l.inode - b) aim l.inode b)
 
 -- ---- a block taken
 
@@ -99,34 +101,45 @@ plain_last : (o : Option Found) (x : IndexState) → answers o x ≡ or_next o x
 plain_last None x = refl
 plain_last (Some f) x = refl
 
-plain_full : (mark : Option Acts) (n : ℕ) (d : Dinode) (k : ℕ) (x : IndexState) → plain (search_full mark n d k x) ≡ search_from (suc n) Unused d k x
+plain_full : (v : Version) (mark : Option Acts) (n : ℕ) (d : Dinode) (k : ℕ) (x : IndexState) → plain (search_full v mark n d k x) ≡ search_from v (suc n) Unused d k x
 unfolding search_full search_from
-plain_full mark zero d k x =
-    then_plain (fetch_block d k) (fetch_block d k) (look_last mark d k x) (look_at Unused d k x (search_from zero Unused d (k + 1))) (plain_block d k)
-    (λ f i. Do (steps.Put f.number None) unmarked (λ _. plain_last (found_in Unused d k f.bytes) (raised d k f.bytes x) i))
-plain_full mark (suc n) d k x =
-    then_plain (fetch_block d k) (fetch_block d k) (look_at Unused d k x (search_full mark n d (k + 1))) (look_at Unused d k x (search_from (suc n) Unused d (k + 1))) (plain_block d k)
-    (λ f i. Do (steps.Put f.number None) unmarked (λ _. plain_or_next (found_in Unused d k f.bytes) (raised d k f.bytes x) (search_full mark n d (k + 1)) (search_from (suc n) Unused d (k + 1)) (plain_full mark n d (k + 1)) i))
+plain_full v mark zero d k x =
+    then_plain (fetch_block d k) (fetch_block d k) (look_last v mark d k x) (look_at v Unused d k x (search_from v zero Unused d (k + 1))) (plain_block d k)
+    (λ f i. Do (steps.Put f.number None) unmarked (λ _. plain_last (found_in v Unused d k f.bytes) (raised v d k f.bytes x) i))
+plain_full v mark (suc n) d k x =
+    then_plain (fetch_block d k) (fetch_block d k) (look_at v Unused d k x (search_full v mark n d (k + 1))) (look_at v Unused d k x (search_from v (suc n) Unused d (k + 1))) (plain_block d k)
+    (λ f i. Do (steps.Put f.number None) unmarked (λ _. plain_or_next (found_in v Unused d k f.bytes) (raised v d k f.bytes x) (search_full v mark n d (k + 1)) (search_from v (suc n) Unused d (k + 1)) (plain_full v mark n d (k + 1)) i))
 
--- if all slots are there, and the index has none free, it has one block at most
-module _ (mark : Option Acts) (l : Loaded) (full : slot_count l.inode ≡ most_slots) where
+-- a directory with all its slots has all blocks that a content may have
+pub blocks_full : (v : Version) (d : Dinode) → slot_count v d ≡ most_slots v → block_count v d ≡ most_blocks
+blocks_full v d full =
+    let last = (whole_blocks v).0 (most_blocks - 1) (omega arith) in
+    let more = (take_blocks v (most_slots v) (most_blocks - 1)).1 (omega (arith, in_range v, last)) in
+    let most = (whole_blocks v).1 (most_slots v) (omega arith) in
+    ap (λ (n : ℕ). (n + (dirents_per_block_of v - 1)) / dirents_per_block_of v) full ∙ omega (arith, more, most)
+
+-- and if the index has none free it has two blocks at most
+pub blocks_few : (v : Version) (l : Loaded) → slot_count v l.inode ≡ most_slots v → first_of v Unused l.inode l.index ≡ None → l.index.blocks ≤ 2
+blocks_few v l full none = omega (arith, few_known v l full none, mul-le-mul_right l.index.blocks (in_range v).4)
+
+module _ (v : Version) (mark : Option Acts) (l : Loaded) (full : slot_count v l.inode ≡ most_slots v) where
   abbrev b : ℕ
   b = l.index.blocks
 
-  plain_seek_full : (o : Option Found) → first_of Unused l.inode l.index ≡ o
-      → plain (or_next o l.index (search_full mark (most_blocks - 1 - b) l.inode b)) ≡ or_next o l.index (search_from (block_count l.inode - b) Unused l.inode b)
+  plain_seek_full : (o : Option Found) → first_of v Unused l.inode l.index ≡ o
+      → plain (or_next o l.index (search_full v mark (most_blocks - 1 - b) l.inode b)) ≡ or_next o l.index (search_from v (block_count v l.inode - b) Unused l.inode b)
   plain_seek_full (Some f) is = refl
   plain_seek_full None is =
-      let few : b ≤ 1 = few_known l full is in
-      let all : suc (most_blocks - 1 - b) ≡ block_count l.inode - b = omega (arith, few, full) in
-      plain_full mark (most_blocks - 1 - b) l.inode b l.index ∙ ap (λ (n : ℕ). search_from n Unused l.inode b l.index) all
+      let few : b ≤ 2 = blocks_few v l full is in
+      let all : suc (most_blocks - 1 - b) ≡ block_count v l.inode - b = omega (arith, few, blocks_full v l.inode full) in
+      plain_full v mark (most_blocks - 1 - b) l.inode b l.index ∙ ap (λ (n : ℕ). search_from v n Unused l.inode b l.index) all
 
-pub plain_seek : (mark : Option Acts) (l : Loaded) → plain (seek_free mark l) ≡ search Unused l
-plain_seek mark l = by (nat_lt (slot_count l.inode) most_slots) refl
+pub plain_seek : (v : Version) (mark : Option Acts) (l : Loaded) → plain (seek_free v mark l) ≡ search v Unused l
+plain_seek v mark l = by (nat_lt (slot_count v l.inode) (most_slots v)) refl
   where
-    by : (b : Bool) → nat_lt (slot_count l.inode) most_slots ≡ b
-        → plain (if b then search Unused l else seek_full mark l) ≡ search Unused l
-    by true room = plain_search Unused l
+    by : (b : Bool) → nat_lt (slot_count v l.inode) (most_slots v) ≡ b
+        → plain (if b then search v Unused l else seek_full v mark l) ≡ search v Unused l
+    by true room = plain_search v Unused l
     by false full =
-        let many : most_slots ≤ slot_count l.inode = grind (arith, nat_tests, full) in
-        plain_seek_full mark l (omega (arith, many)) (first_of Unused l.inode l.index) refl
+        let many : most_slots v ≤ slot_count v l.inode = grind (arith, nat_tests, full) in
+        plain_seek_full v mark l (omega (arith, many)) (first_of v Unused l.inode l.index) refl

@@ -1,5 +1,5 @@
 -- The first listed inode locked: the operation is its part.
-use Rattle.inode_parts.proofs.Vocabulary.{◌≡◌, ◌<◌, ◌^◌, ◌⊎◌, inl, inr, ℕ, List, [], ◌∷◌, true, false, Option, Some, None, refl, sym, ap, subst, ◌∙◌, IsSome, is_some, option_map_or, unwrap_or, GuardState, Loaded, Super, Inode, bind, inode_block, load_unless, first_in, first_listed, inode_at, inode_in, no_inode, number_at, reference_at, with_first, with_inode, Hand, InodePlace, One, Two, HasNoBuffer, number_in, HasBlock, lock_loaded, eq_is, eq_self, AtNothing, Query, Take, answer_to, Heard, carry_in, Comes, CameTo, Leaves, having, IsAlone, free_seat, other, refers, seat_of_reference, IsPart, Part, MayRelock, RelockBegins, RelockReady, beside_in, looked, IsTaken, Sees, TakeBegins, Notes}
+use Rattle.inode_parts.proofs.Vocabulary.{◌≡◌, ◌<◌, ◌^◌, ◌⊎◌, inl, inr, ℕ, List, [], ◌∷◌, true, false, Option, Some, None, refl, sym, ap, subst, ◌∙◌, IsSome, is_some, option_map_or, unwrap_or, GuardState, Loaded, Super, Version, Inode, bind, inode_block, load_unless, first_in, first_listed, inode_at, inode_in, no_inode, number_at, reference_at, with_first, with_inode, Hand, InodePlace, One, Two, HasNoBuffer, number_in, HasBlock, lock_loaded, eq_is, eq_self, AtNothing, Query, Take, answer_to, Heard, carry_in, Comes, CameTo, Leaves, having, IsAlone, free_seat, other, refers, seat_of_reference, IsPart, Part, MayRelock, RelockBegins, RelockReady, beside_in, only_seen, IsTaken, Sees, TakeBegins, Notes}
 use Rattle.fs_machine.specs.Machines as code
 use Rattle.path_walk.specs.declared.asks.Query.TheVariants as query
 use Rattle.inode_parts.specs.declared.relock_part.RelockPart.TheVariants as relock
@@ -36,7 +36,7 @@ module _ (sizes : Super) (n : ℕ) (h : Hand) (k : InodePlace) (at : k ≡ free_
   free : inode_at k h ≡ None
   free = subst (λ (k : InodePlace). inode_at k h ≡ None) (sym at) begins.0.3
 
-  pub relock_is_part : (path : List ℕ) (m : Notes) → IsPart sizes (carry_in path m h) (Take n AtNothing) (bind (lock_loaded sizes.inodestart (first_listed h)) (looked path query.Nothing (beside_in path m k h) (first_listed h)))
+  pub relock_is_part : (path : List ℕ) (m : Notes) → IsPart sizes (carry_in path m h) (Take n AtNothing) (bind (lock_loaded sizes.inodestart (first_listed h)) (only_seen path (beside_in path m k h) (first_listed h)))
   relock_is_part path m =
       locked_is_part sizes path m n query.Nothing h k (lock_loaded sizes.inodestart (first_listed h)) (first_listed h) (ap (λ (n : ℕ). let p : code.P Loaded = lock_loaded sizes.inodestart n in p) named) named free
 
@@ -103,11 +103,11 @@ module _ (k : InodePlace) (before h : Hand) (g : GuardState Inode) (is : h ≡ w
   came_block inodestart block = subst (λ (n : ℕ). inode_block inodestart n < 2 ^ 32) (sym locks_so) block
 
   -- what is left then
-  pub came_goes : (path : List ℕ) (m : Notes) (inodestart : ℕ) (p : code.P Loaded) (r : Part) → p ≡ load_unless inodestart (number_in k h) (inode_in k h).content → bind p (looked path query.Nothing (beside_in path m k h) (number_at k h)) ≡ r
-      → bind (load_unless inodestart (first_listed before) (inode_in k h).content) (looked path query.Nothing (beside_in path m k before) (first_listed before)) ≡ r
+  pub came_goes : (path : List ℕ) (m : Notes) (inodestart : ℕ) (p : code.P Loaded) (r : Part) → p ≡ load_unless inodestart (number_in k h) (inode_in k h).content → bind p (only_seen path (beside_in path m k h) (number_at k h)) ≡ r
+      → bind (load_unless inodestart (first_listed before) (inode_in k h).content) (only_seen path (beside_in path m k before) (first_listed before)) ≡ r
   came_goes path m inodestart p r program ends =
-      (λ i. bind (load_unless inodestart (sym locks_so i) (inode_in k h).content) (looked path query.Nothing (same_beside path m k before h other_same i) (sym refers_so i)))
-      ∙ ap (λ (p : code.P Loaded). bind p (looked path query.Nothing (beside_in path m k h) (number_at k h))) (sym program)
+      (λ i. bind (load_unless inodestart (sym locks_so i) (inode_in k h).content) (only_seen path (same_beside path m k before h other_same i) (sym refers_so i)))
+      ∙ ap (λ (p : code.P Loaded). bind p (only_seen path (beside_in path m k h) (number_at k h))) (sym program)
       ∙ ends
 
 -- ---- what it leaves
@@ -134,9 +134,9 @@ module _ (n : ℕ) (start : Hand) (may : MayRelock n start) (k : InodePlace) (at
       subst (λ (h : Hand). Comes k referred_to h) (sym (is ∙ ap (λ (h : Hand). with_inode k (Some g) (with_first k h)) still))
       (subst (λ (k : InodePlace). Comes k referred_to (with_inode k (Some g) (with_first k start))) (sym at) (first_comes (free_seat start) start g may.3 may.5.0))
 
-  pub relock_leaves : (path : List ℕ) (m m2 : Notes) (h : Hand) (x : Heard) → Comes k referred_to h → IsTaken k h → h.first ≡ None → Sees path AtNothing k x m m2
-      → Leaves path (Take n AtNothing) (answer_to [] (Take n AtNothing) x) (having start m) (having h m2)
-  relock_leaves path m m2 h x comes taken over sees =
+  pub relock_leaves : (v : Version) (path : List ℕ) (m m2 : Notes) (h : Hand) (x : Heard) → Comes k referred_to h → IsTaken k h → h.first ≡ None → Sees v path AtNothing k x m m2
+      → Leaves v path (Take n AtNothing) (answer_to [] (Take n AtNothing) x) (having start m) (having h m2)
+  relock_leaves v path m m2 h x comes taken over sees =
       let kept = sym (number_same k referred_to h comes.2) ∙ number_came in
-      let left = taken_leaves path m m2 n AtNothing start referred_to k h x kept comes taken over sees in
+      let left = taken_leaves v path m m2 n AtNothing start referred_to k h x kept comes taken over sees in
       ((((λ has. absurd (may.0 has)), (λ none. subst (λ (k : InodePlace). CameTo k n referred_to h) at left.0)), sees.0), left.1)

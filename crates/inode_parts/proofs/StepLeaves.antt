@@ -1,5 +1,5 @@
 -- What operations on whole inodes that are one operation below leave in hand.
-use Rattle.inode_parts.proofs.Vocabulary.{arith, ◌≡◌, ℕ, List, [], ◌∷◌, ◌++◌, Bool, true, false, Option, Some, None, refl, sym, ap, ◌∙◌, subst, IfSome, is_some, if◌then◌else◌, MatchOption, unwrap_or, descriptor_count, Ret, Do, Inode, Goes, inode_in, number_at, reference_at, with_inode, with_listed, with_reference, with_seated, IsAfter, IsDown, IsHanded, IsJoined, IsKept, IsLent, IsOpened, answer_in, dropped_by, given_by, joined_by, kept_by, number_by, shut_by, yes_in, Hand, InodePlace, One, Two, Answer, is_dying, is_listed, old_directory, shut_to, answer_to, bool_in, joined_in, loan_in, shut_in, start_in, Heard, handed, note_at, with_note, Having, Leaves, LeavesDown, LeavesInstall, LeavesJoinFile, LeavesLend, LeavesShut, LeavesUp, LeavesWalkDown, ReferredOrAside, part_for, having, Begins, HasFreeSeat, free_seat, joining_heard, loan_heard, other, seat_of_lock, seat_of_reference, step_asked, step_for, step_left, step_notes, Part, OneAmid, UnderWay, Notes, OneStep}
+use Rattle.inode_parts.proofs.Vocabulary.{arith, ◌≡◌, ℕ, List, [], ◌∷◌, ◌++◌, Bool, true, false, Option, Some, None, refl, sym, ap, ◌∙◌, subst, IfSome, is_some, if◌then◌else◌, MatchOption, unwrap_or, descriptor_count, Ret, Do, Inode, Goes, inode_in, number_at, reference_at, with_inode, with_listed, with_reference, with_seated, IsAfter, IsDown, IsHanded, IsJoined, IsKept, IsLent, IsOpened, answer_in, dropped_by, given_by, joined_by, kept_by, number_by, shut_by, yes_in, Hand, InodePlace, One, Two, Answer, is_dying, is_listed, old_directory, shut_to, answer_to, bool_in, joined_in, loan_in, shut_in, start_in, Heard, handed, note_at, with_note, Having, Leaves, LeavesDown, LeavesInstall, LeavesJoinFile, LeavesLend, LeavesShut, LeavesUp, LeavesWalkDown, ReferredOrAside, part_for, having, Begins, HasFreeSeat, free_seat, joining_heard, loan_heard, other, seat_of_lock, seat_of_reference, step_asked, step_for, step_left, step_notes, Part, OneAmid, UnderWay, Notes, OneStep, Version}
 use Rattle.fs_machine.specs.declared.op.Answer.TheVariants as answers
 use Rattle.inode_machine.specs.World as above
 use Rattle.path_walk.specs.Asks.{number_in}
@@ -8,27 +8,27 @@ use Rattle.inode_parts.specs.declared.note.Note.TheVariants as note
 use Rattle.inode_parts.specs.declared.one_step.OneStep.TheVariants as step
 
 -- it begins so
-pub under_way : (path : List ℕ) (op : above.Op) (h : Hand) (m : Notes) → Begins op h → UnderWay path op (having h m) (part_for op h) (having h m)
-under_way path (above.UnlockInode n) h m has = (has, refl, refl)
-under_way path (above.SetDirectory n) h m has = (has, refl, refl)
-under_way path (above.UpStart absolute) h m has = (has, refl, refl)
-under_way path (above.Up n) h m has = (has, refl, refl)
-under_way path (above.WalkDown n) h m has = (has, refl, refl)
-under_way path (above.Down n) h m has = (has, refl, refl)
-under_way path (above.Forget n) h m has = (has, refl, refl)
-under_way path above.Slot h m has = (has, refl, refl)
-under_way path (above.Install f inode_type) h m has = (has, refl, refl)
-under_way path (above.CheckFile fd) h m has = (has, refl, refl)
-under_way path (above.JoinFile fd) h m has = (has, refl, refl)
-under_way path (above.Double fd) h m has = (has, refl, refl)
-under_way path (above.Shut fd) h m has = (has, refl, refl)
-under_way path (above.Lend child from) h m has = (has, refl, refl)
-under_way path (above.LendDirectory child) h m has = (has, refl, refl)
-under_way path (above.Release child) h m has = (has, refl, refl)
-under_way path above.Join h m has = (has, refl, refl)
-under_way path above.Leave h m has = (refl, refl)
-under_way path above.Say h m has = (has, refl, refl)
-under_way path op h m has = absurd has
+pub under_way : (v : Version) (path : List ℕ) (op : above.Op) (h : Hand) (m : Notes) → Begins op h → UnderWay v path op (having h m) (part_for op h) (having h m)
+under_way v path (above.UnlockInode n) h m has = (has, refl, refl)
+under_way v path (above.SetDirectory n) h m has = (has, refl, refl)
+under_way v path (above.UpStart absolute) h m has = (has, refl, refl)
+under_way v path (above.Up n) h m has = (has, refl, refl)
+under_way v path (above.WalkDown n) h m has = (has, refl, refl)
+under_way v path (above.Down n) h m has = (has, refl, refl)
+under_way v path (above.Forget n) h m has = (has, refl, refl)
+under_way v path above.Slot h m has = (has, refl, refl)
+under_way v path (above.Install f inode_type) h m has = (has, refl, refl)
+under_way v path (above.CheckFile fd) h m has = (has, refl, refl)
+under_way v path (above.JoinFile fd) h m has = (has, refl, refl)
+under_way v path (above.Double fd) h m has = (has, refl, refl)
+under_way v path (above.Shut fd) h m has = (has, refl, refl)
+under_way v path (above.Lend child from) h m has = (has, refl, refl)
+under_way v path (above.LendDirectory child) h m has = (has, refl, refl)
+under_way v path (above.Release child) h m has = (has, refl, refl)
+under_way v path above.Join h m has = (has, refl, refl)
+under_way v path above.Leave h m has = (refl, refl)
+under_way v path above.Say h m has = (has, refl, refl)
+under_way v path op h m has = absurd has
 
 -- ---- what is at a seat then
 
@@ -134,13 +134,13 @@ heard_of : Part → Heard
 heard_of (Ret r) = r.answer.1
 heard_of (Do o m k) = heard.WasDone
 
-module _ (path : List ℕ) (m m2 : Notes) (before h : Hand) (a : Answer) (x : Heard) where
+module _ (version : Version) (path : List ℕ) (m m2 : Notes) (before h : Hand) (a : Answer) (x : Heard) where
   -- this step had this result
   abbrev Came : OneStep → Type 0
   Came s = IsAfter (step_asked s) before a h × Goes (step_left path m s before) (answer_in (step_asked s) a h) (Ret (handed path m2 x h)) × (m2 ≡ step_notes s (yes_in a) m)
 
   -- at a seat, or aside
-  leaves_up : (n : ℕ) (o : Option ℕ) → reference_at (free_seat before) before ≡ o → Came (if is_some o then step.UpAside n else step.Up (free_seat before) n) → Leaves path (above.Up n) (answer_to [] (above.Up n) x) (having before m) (having h m2)
+  leaves_up : (n : ℕ) (o : Option ℕ) → reference_at (free_seat before) before ≡ o → Came (if is_some o then step.UpAside n else step.Up (free_seat before) n) → Leaves version path (above.Up n) (answer_to [] (above.Up n) x) (having before m) (having h m2)
   unfolding answer_in heard_of
   leaves_up n None free came =
       let there = ap (λ (r : Option ℕ). is_some r) (sym (reference_came (free_seat before) came.0.0 before h came.0.1)) ∙ ap (λ (q : Part). bool_in (heard_of q)) came.1 in
@@ -150,7 +150,7 @@ module _ (path : List ℕ) (m m2 : Notes) (before h : Hand) (a : Answer) (x : He
       let clash : HasFreeSeat before → ⊥ = λ free. (let both : None ≡ Some j = sym free ∙ taken in cc both) in
       (subst (λ (b : Bool). LeavesUp n b before h) there (ups before h a n came.0.0 ((λ (free : HasFreeSeat before). absurd (clash free)), (λ (full : HasFreeSeat before → ⊥). came.0.1)) came.0.2), came.2)
 
-  leaves_by : (op : above.Op) → Begins op before → MatchOption (step_for op before) ⊥ Came → Leaves path op (answer_to [] op x) (having before m) (having h m2)
+  leaves_by : (op : above.Op) → Begins op before → MatchOption (step_for op before) ⊥ Came → Leaves version path op (answer_to [] op x) (having before m) (having h m2)
   unfolding answer_in heard_of
   leaves_by (above.UnlockInode n) has came = (came.0, came.2)
   leaves_by (above.SetDirectory n) has came =
@@ -194,10 +194,10 @@ module _ (path : List ℕ) (m m2 : Notes) (before h : Hand) (a : Answer) (x : He
 
   -- as its step did
   pub step_leaves : (op : above.Op) (s : OneStep) (start : Having) → OneAmid op start s (having before m) → IsAfter (step_asked s) before a h → Goes (step_left path m s before) (answer_in (step_asked s) a h) (Ret (handed path m2 x h))
-      → m2 ≡ step_notes s (yes_in a) m → Leaves path op (answer_to [] op x) start (having h m2)
+      → m2 ≡ step_notes s (yes_in a) m → Leaves version path op (answer_to [] op x) start (having h m2)
   step_leaves op s start amid after goes noted =
       let came : Came s = (after, goes, noted) in
-      let begun : (start : Having) → having before m ≡ start → Begins op start.hand → step_for op start.hand ≡ Some s → Leaves path op (answer_to [] op x) start (having h m2) = λ start e.
-      subst (λ (start : Having). Begins op start.hand → step_for op start.hand ≡ Some s → Leaves path op (answer_to [] op x) start (having h m2)) e
+      let begun : (start : Having) → having before m ≡ start → Begins op start.hand → step_for op start.hand ≡ Some s → Leaves version path op (answer_to [] op x) start (having h m2) = λ start e.
+      subst (λ (start : Having). Begins op start.hand → step_for op start.hand ≡ Some s → Leaves version path op (answer_to [] op x) start (having h m2)) e
       (λ has is. leaves_by op has (subst (λ (o : Option OneStep). MatchOption o ⊥ Came) (sym is) came)) in
       begun start amid.2 amid.0 amid.1

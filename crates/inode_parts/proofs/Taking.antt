@@ -1,12 +1,11 @@
 -- How an inode that is taken is looked at.
-use Rattle.inode_parts.proofs.Vocabulary.{◌≡◌, ℕ, List, Option, Some, None, true, false, refl, sym, ap, subst, ◌∙◌, Bool, Dinode, Loaded, Searched, Ret, bind, P, Aim, Goes, number_at, Hand, InodePlace, One, Two, index_at, loaded_in, record_in, beside_index, beside_lock, HasLocked, goes_to, goes_with, search_left, Search, Carry, Heard, carry_in, handed, with_note, face_unless_free, IsAlone, Part, beside_in, looked, seen, IsTaken, Note, Notes, TakePart, take_left, left_after}
+use Rattle.inode_parts.proofs.Vocabulary.{◌≡◌, ℕ, List, Option, Some, None, true, false, refl, sym, ap, subst, ◌∙◌, Bool, Dinode, Loaded, Searched, Version, Ret, bind, P, Aim, Goes, number_at, Hand, InodePlace, One, Two, index_at, loaded_in, record_in, beside_index, beside_lock, HasLocked, goes_to, goes_with, search_left, Search, Carry, Heard, carry_in, handed, with_note, face_unless_free, IsAlone, Part, beside_in, seen, IsTaken, Note, Notes, TakePart, take_left, left_after}
 use Rattle.std.specs.Prelude.{IfNone}
 use Rattle.inode_parts.specs.Takes.{begun_if, taken_left}
 use Rattle.inode_parts.specs.Vocabulary.{IfBegun}
 use Rattle.inode_parts.specs.Leaving.{heard_if}
 use Rattle.fs_machine.specs.Steps as steps
 use Rattle.path_walk.specs.declared.asks.Heard.TheVariants as heard
-use Rattle.path_walk.specs.declared.asks.Query.{Query}
 use Rattle.inode_parts.proofs.Basics.{had_now, index_there, lock_on, lock_over, number_over, other_stays, alone_still, record_over, side_over}
 
 -- ---- while it is locked the reference stays
@@ -23,35 +22,36 @@ alone_locked k l before h is same alone =
 pub is_taken : (k l : InodePlace) (before h : Hand) → l ≡ k → beside_lock k h ≡ beside_lock k before → IsAlone (number_at k before) k before → HasLocked l h → IsTaken l h
 is_taken k l before h is same alone has = (has.0, has.1, alone_locked k l before h is same alone)
 
-module _ (path : List ℕ) (m : Notes) (q : Query) (k : InodePlace) (before h : Hand) (p : P Loaded) (answer : (o : steps.Op) → steps.Answer o) (same : beside_lock k h ≡ beside_lock k before) where
+-- then this is said of it
+module _ (ends : Carry → ℕ → Loaded → Part) (path : List ℕ) (m : Notes) (k : InodePlace) (before h : Hand) (p : P Loaded) (answer : (o : steps.Op) → steps.Answer o) (same : beside_lock k h ≡ beside_lock k before) where
   pub take_on : (l : InodePlace) (r : P Loaded) → l ≡ k → Goes p answer r
-      → Goes (bind p (looked path q (beside_in path m k before) (number_at k before))) answer (bind r (looked path q (beside_in path m l h) (number_at l h)))
+      → Goes (bind p (ends (beside_in path m k before) (number_at k before))) answer (bind r (ends (beside_in path m l h) (number_at l h)))
   take_on l r at goes =
-      goes_to (bind p (looked path q (beside_in path m k before) (number_at k before))) (bind r (looked path q (beside_in path m l h) (number_at k before))) (bind r (looked path q (beside_in path m l h) (number_at l h))) answer
-      (lock_on (λ c. looked path q c (number_at k before)) path m k before h p answer same l r at goes)
-      (λ i. bind r (looked path q (beside_in path m l h) ((number_same k before h same ∙ (λ j. number_at (sym at j) h)) i)))
+      goes_to (bind p (ends (beside_in path m k before) (number_at k before))) (bind r (ends (beside_in path m l h) (number_at k before))) (bind r (ends (beside_in path m l h) (number_at l h))) answer
+      (lock_on (λ c. ends c (number_at k before)) path m k before h p answer same l r at goes)
+      (λ i. bind r (ends (beside_in path m l h) ((number_same k before h same ∙ (λ j. number_at (sym at j) h)) i)))
 
-  pub take_over : (l : InodePlace) (r : Part) → l ≡ k → looked path q (beside_in path m l h) (number_at l h) (loaded_in l h) ≡ r → Goes p answer (Ret (loaded_in l h)) → Goes (bind p (looked path q (beside_in path m k before) (number_at k before))) answer r
+  pub take_over : (l : InodePlace) (r : Part) → l ≡ k → ends (beside_in path m l h) (number_at l h) (loaded_in l h) ≡ r → Goes p answer (Ret (loaded_in l h)) → Goes (bind p (ends (beside_in path m k before) (number_at k before))) answer r
   take_over l r at e goes =
-      lock_over (λ c. looked path q c (number_at k before)) path m k before h p answer same (loaded_in l h) r
-      ((λ i. looked path q (beside_in path m (sym at i) h) ((number_same k before h same ∙ (λ j. number_at (sym at j) h)) i) (loaded_in l h)) ∙ e) goes
+      lock_over (λ c. ends c (number_at k before)) path m k before h p answer same (loaded_in l h) r
+      ((λ i. ends (beside_in path m (sym at i) h) ((number_same k before h same ∙ (λ j. number_at (sym at j) h)) i) (loaded_in l h)) ∙ e) goes
 
 -- ---- while it is searched all stays but the buffers, and its index
 
 -- the ends count the index that the search left alone
-module _ (ends : Carry → ℕ → Dinode → Searched → Part) (path : List ℕ) (m : Notes) (k : InodePlace) (before h : Hand) (aim : Aim) (s : Search) (answer : (o : steps.Op) → steps.Answer o) (same : beside_index k h ≡ beside_index k before) where
+module _ (v : Version) (ends : Carry → ℕ → Dinode → Searched → Part) (path : List ℕ) (m : Notes) (k : InodePlace) (before h : Hand) (aim : Aim) (s : Search) (answer : (o : steps.Op) → steps.Answer o) (same : beside_index k h ≡ beside_index k before) where
   abbrev at : Hand → Searched → Part
   at h = ends (beside_in path m k h) (number_at k h) (record_in k h)
 
   at_same : at before ≡ at h
   at_same = λ i. ends (side_over k before h same path m i) (number_over k before h same i) (record_over k before h same i)
 
-  pub search_on : (t : Search) → Goes (search_left aim k s before) answer (search_left aim k t h) → Goes (bind (search_left aim k s before) (at before)) answer (bind (search_left aim k t h) (at h))
-  search_on t goes = goes_with (search_left aim k s before) (search_left aim k t h) (at before) (at h) answer at_same goes
+  pub search_on : (t : Search) → Goes (search_left v aim k s before) answer (search_left v aim k t h) → Goes (bind (search_left v aim k s before) (at before)) answer (bind (search_left v aim k t h) (at h))
+  search_on t goes = goes_with (search_left v aim k s before) (search_left v aim k t h) (at before) (at h) answer at_same goes
 
-  pub search_over : (o : Searched) (r : Part) → at h o ≡ r → Goes (search_left aim k s before) answer (Ret o) → Goes (bind (search_left aim k s before) (at before)) answer r
+  pub search_over : (o : Searched) (r : Part) → at h o ≡ r → Goes (search_left v aim k s before) answer (Ret o) → Goes (bind (search_left v aim k s before) (at before)) answer r
   search_over o r e goes =
-      goes_to (bind (search_left aim k s before) (at before)) (at h o) r answer (goes_with (search_left aim k s before) (Ret o) (at before) (at h) answer at_same goes) e
+      goes_to (bind (search_left v aim k s before) (at before)) (at h o) r answer (goes_with (search_left v aim k s before) (Ret o) (at before) (at h) answer at_same goes) e
 
 -- ---- what was seen
 

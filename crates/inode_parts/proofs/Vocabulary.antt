@@ -1,13 +1,14 @@
 -- What this crate's proofs speak of: its own definitions, and what the crates below and the library call things.
-pub use Rattle.inode_parts.specs.Vocabulary.{Apart, Ask, AtEntries, AtName, AtNothing, Call, Carry, Claim, Claimed, Dinode, Do, Element, Emptied, EnteredState, Entry, Face, Filled, FilledMemory, Finds, First, Found, Given, Goes, GuardState, Had, Hand, Handover, Has, HasNoBuffer, HasRoomFor, Heard, IndexState, Inode, IsAfter, IsEmpty, IsEmptying, IsLoadedAt, Loaded, LockedState, Locks, Made, MatchOption, Name, Named, NothingMore, One, OpAbove as Op, OpenFile, P, Query, ReadReady, Refuses, Reply, Ret, Room, SearchReady, InodePlace, Searched, Second, Sight, Super, Take, Two, Whole, WholeFits, WritePart, WriteReady, WriteResult, Written, Wrote, above_op as op_in, answer_to, bare, below, beside_lock, beside_new, bind, call_in, cause_if, cause_of, clear_left, count_in, descriptor_count, doubled_by, doubled_to, emptying_of, enter_left, enter_seat, entries, file_left, file_seat, fill_left, filled_to, finish_left, first_listed, found_with, freeing_left, freeing_of, given_by, handlers, index_at, inode_at, inode_block, inode_blocks, inode_in, is_dying, is_free, is_listed, is_number, joined_by, kind_of, left_after, loaded_in, lock_left, lock_loaded, lock_seat, lookup, machine, most_slots, name_in, new_file, new_left, new_value, no_inode, nothing, number_at, number_by, number_found, number_in, old_directory, open_left, open_seat, option_map, option_map_or, piece, program, query_in, read_count, read_left, read_of, record_in, record_left, record_of, record_place, reference_at, refused_by, refused_in, root, search_left, second_in, shut_by, shut_to, sight_in, type_of, text_in, truncate_left, unloaded, unmarked, whole_of, with_aside, with_buffer, with_dying, with_first, with_index, with_inode, with_listed, with_record, with_reference, with_seated, with_txn, write_left, yes_in}
+pub use Rattle.inode_parts.specs.Vocabulary.{Apart, Ask, AtEntries, AtName, AtNothing, Call, Carry, Claim, Claimed, Dinode, Do, Element, Emptied, EnteredState, Entry, Face, Filled, FilledMemory, Finds, First, Found, Given, Goes, GuardState, Had, Hand, Handover, Has, HasNoBuffer, HasRoomFor, Heard, IndexState, Inode, IsAfter, IsEmpty, IsEmptying, IsLoadedAt, Loaded, LockedState, Locks, Made, MatchOption, Name, Named, NothingMore, One, OpAbove as Op, OpenFile, P, Query, ReadReady, Refuses, Reply, Ret, Room, SearchReady, InodePlace, Searched, Second, Sight, Super, Take, Two, Version, Whole, WholeFits, WritePart, WriteReady, WriteResult, Written, Wrote, above_op as op_in, answer_to, bare, below, beside_lock, beside_new, bind, call_in, cause_if, cause_of, clear_left, count_in, descriptor_count, doubled_by, doubled_to, emptying_of, enter_left, enter_seat, entries, file_left, file_seat, fill_left, filled_to, finish_left, first_listed, found_with, freeing_left, freeing_of, given_by, handlers, index_at, inode_at, inode_block, inode_blocks, inode_in, is_dying, is_free, is_listed, is_number, joined_by, kind_of, left_after, loaded_in, lock_left, lock_loaded, lock_seat, lookup, machine, most_slots, name_in, new_file, new_left, new_value, no_inode, nothing, number_at, number_by, number_found, number_in, old_directory, open_left, open_seat, option_map, option_map_or, piece, program, query_in, read_count, read_left, read_of, record_in, record_left, record_of, record_place, reference_at, refused_by, refused_in, root, search_left, second_in, shut_by, shut_to, sight_in, type_of, text_in, truncate_left, unloaded, unmarked, whole_of, with_aside, with_buffer, with_dying, with_first, with_index, with_inode, with_listed, with_record, with_reference, with_seated, with_txn, write_left, yes_in}
 unfoldable pub use Rattle.inode_parts.specs.Vocabulary.{answer_in, cleared, put}
 pub use Rattle.fs_machine.specs.Hands.{indexed}
 pub use Rattle.fs_machine.specs.InMemory.{index_of, no_index, unindexed, with_index_of, with_inode_of}
 pub use Rattle.inode_table.specs.Programs.{loaded_of}
 unfoldable pub use Rattle.directory.specs.Indexes.{first_of, raised, with_entry}
+pub use Rattle.image_versions.specs.Versions.{dirent_len_of, dirents_per_block_of, new_directory_size_of}
 pub use Rattle.inodes_on_blocks.specs.Storing.{reindexed, with_index as carry_index}
 pub use Rattle.directory.proofs.Indexed.{few_known}
-pub use Rattle.inodes_on_blocks.proofs.Vocabulary.{Acts, Aim, BlockInHand as FetchedBlock, Bool, IfSome, IsSome, Knowledge, List, LocksIt, None, OfDevice, OfDirectory, OfFile, Option, Prog, Some, InodeType, Unused, [], acts, address, after_leave, ap, append-nil, append_assoc, arith, bind-assoc, block_count, block_len, blocks_between, cast_unsigned, claim_at, claim_in, clear_bit, clear_in, clear_slot, commit_unless, commits, direct, dirent_len, dirents_per_block, drop, drop-drop, end_of, entered_to, eq_is, eq_self, face_in, false, fetch, fetch_at, fetch_block, fetch_named, fetch_number, file_locked, filled_with, free_block, free_in, free_in_table, free_indirect, free_numbers, free_table, freed, front_of, give_back, give_content, give_fetched, give_read, give_written, give_zeros, grown, holding, if◌then◌else◌, inl, inr, is_some, joining_to, learned, length, length-append, lent_to, load_unless, locate, locate_at, locate_in_table, located, look_at, look_last, look_up, marked_by, most_writes, name_direct, name_in_table, nat_lt, nat_tests, next_block, not, numbers_in, open_locked, or_next, overwrite, part_of, put_grown, put_inode, put_named, put_part, put_record, read_from, read_part, read_unless, record_had, refl, same_self, search, search_entries, seen_record, slice_index, slot_count, slot_for, slot_found, inode_type_at, spell_dirent, stat_loaded, stat_locked, store_inode, store_written, subst, suc, sym, table_of, take, take_first, take_one, true, unwrap_or, with_address, with_slot, with_table, write_in, write_located, write_unless, zero, zero_found, ℕ, ℤ, ◌%◌, ◌*◌, ◌++◌, ◌+◌, ◌-◌, ◌/◌, ◌<◌, ◌==◌, ◌^◌, ◌∙◌, ◌∷◌, ◌≡◌, ◌≢◌, ◌≤◌, ◌⊎◌}
+pub use Rattle.inodes_on_blocks.proofs.Vocabulary.{Acts, Aim, BlockInHand as FetchedBlock, Bool, IfSome, IsSome, Knowledge, List, LocksIt, None, OfDevice, OfDirectory, OfFile, Option, Prog, Some, InodeType, Unused, [], acts, address, after_leave, ap, append-nil, append_assoc, arith, bind-assoc, block_count, block_len, blocks_between, cast_unsigned, claim_at, claim_in, clear_bit, clear_in, clear_slot, commit_unless, commits, direct, drop, drop-drop, end_of, entered_to, eq_is, eq_self, face_in, false, fetch, fetch_at, fetch_block, fetch_named, fetch_number, file_locked, filled_with, free_block, free_in, free_in_table, free_indirect, free_numbers, free_table, freed, front_of, give_back, give_content, give_fetched, give_read, give_written, give_zeros, grown, holding, if◌then◌else◌, inl, inr, is_some, joining_to, learned, length, length-append, lent_to, load_unless, locate, locate_at, locate_in_table, located, look_at, look_last, look_up, marked_by, most_writes, name_direct, name_in_table, nat_lt, nat_tests, next_block, not, numbers_in, open_locked, or_next, overwrite, part_of, put_grown, put_inode, put_named, put_part, put_record, read_from, read_part, read_unless, record_had, refl, same_self, search, search_entries, seen_record, slice_index, slot_count, slot_for, slot_found, inode_type_at, spell_dirent, stat_loaded, stat_locked, store_inode, store_written, subst, suc, sym, table_of, take, take_first, take_one, true, unwrap_or, with_address, with_slot, with_table, write_in, write_located, write_unless, zero, zero_found, ℕ, ℤ, ◌%◌, ◌*◌, ◌++◌, ◌+◌, ◌-◌, ◌/◌, ◌<◌, ◌==◌, ◌^◌, ◌∙◌, ◌∷◌, ◌≡◌, ◌≢◌, ◌≤◌, ◌⊎◌}
 unfoldable pub use Rattle.inodes_on_blocks.proofs.Vocabulary.{claim_from, first_clear_below, found_in, read_blocks, search_from, search_full, with_dinode, with_dirent, write_blocks}
 pub use Rattle.inode_data.proofs.Vocabulary.{HasOne, beside_emptying, first, record_has, without_content, write_part}
 pub use Rattle.fs_machine.proofs.Vocabulary.{without_record}
@@ -39,7 +40,7 @@ pub use Rattle.inode_parts.specs.Faces.{face_by, face_unless_free, type_by_numbe
 pub use Rattle.inode_parts.specs.FileReads.{FillsFrom, MayMove, ReadFileAmid, read_file_left, read_over}
 pub use Rattle.inode_parts.specs.FileWrites.{WriteBegins, WriteFileAmid, WriteFileReady, ended_as, write_done, write_file_left, write_over, wrote_upto}
 pub use Rattle.inode_parts.specs.InodeParts.{AskTold, FillsAs, PartReady, PartTold, ReadsInto, ends_with, is_short, one_or_leave, part_for, part_left, part_left_after}
-pub use Rattle.inode_parts.specs.Takes.{IsTaken, Sees, TakeAmid, TakeBegins, listed_ends, looked, named_ends, note_of, seen, take_left}
+pub use Rattle.inode_parts.specs.Takes.{IsTaken, Sees, TakeAmid, TakeBegins, listed_ends, looked, named_ends, note_of, only_seen, seen, take_left}
 pub use Rattle.inode_parts.specs.declared.one_step.OneStep.{OneStep}
 pub use Rattle.inode_parts.specs.declared.file_bytes.ReadFilePart.{ReadFilePart}
 pub use Rattle.inode_parts.specs.declared.take_part.TakePart.{TakePart}

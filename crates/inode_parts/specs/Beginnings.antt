@@ -17,9 +17,9 @@ use Rattle.inode_parts.specs.declared.part.InodePart.{InodePart}
 -- takes
 pub record PartMayBegin (sizes : Super) (first second : List ℕ) (a : Ask) (m : Notes) (h : Hand) : Type 0 where
   pub sized : IsSized sizes
-  pub begins : BeginsWith (first ++ second) (above_op (first ++ second) a) (having h m)
-  pub stands : AskStands first second a
-  pub told : AskTold first second a
+  pub begins : BeginsWith sizes.version (first ++ second) (above_op (first ++ second) a) (having h m)
+  pub stands : AskStands sizes.version first second a
+  pub told : AskTold sizes.version first second a
 
 -- its part has begun: all of the operation is before it
 pub record PartHasBegun (sizes : Super) (first second : List ℕ) (a : Ask) (m : Notes) (before : Hand) (p : InodePart) (after : Hand) : Type 0 where
@@ -28,5 +28,5 @@ pub record PartHasBegun (sizes : Super) (first second : List ℕ) (a : Ask) (m :
   pub told : PartTold first second p
   pub fills : FillsAs a (first ++ second) (part_left (first ++ second) m p after)
   pub known : Begins (above_op (first ++ second) a) before → (p ≡ part_for (above_op (first ++ second) a) before) × (after ≡ before)
-  pub under : UnderWay (first ++ second) (above_op (first ++ second) a) (having before m) p (having after m)
+  pub under : UnderWay sizes.version (first ++ second) (above_op (first ++ second) a) (having before m) p (having after m)
   pub hand : bare after ≡ bare before

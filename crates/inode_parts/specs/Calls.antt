@@ -1,6 +1,6 @@
 -- Calls over whole inodes, run below.
 use Rattle.std.specs.Prelude.{◌≡◌, ◌⊎◌, ℕ, List, [], ◌++◌, length, Some}
-use Rattle.inode_parts.specs.Vocabulary.{Reply, Call, Super, bind, P, Hand, Op, IsEmpty, program, read_of, WholeFits, first_in, second_in, text_in, whole_of, Whole}
+use Rattle.inode_parts.specs.Vocabulary.{Reply, Call, Super, Version, bind, P, Hand, Op, IsEmpty, program, read_of, WholeFits, first_in, second_in, text_in, whole_of, Whole}
 use Rattle.plain_tree.specs.declared.call.Call.TheVariants as calls
 use Rattle.inode_machine.specs.Parts as programs
 use Rattle.inode_machine.specs.World as above
@@ -33,8 +33,8 @@ path_of (calls.Close fd) = []
 path_of (calls.Inherit child) = []
 
 -- with nothing in hand a call runs to its end by such parts
-abbrev pub RunsByParts : List ℕ → Call → Type 0
-RunsByParts path call = (s : Having) → IsEmpty s.hand → Runs path (BeginsWith path) (program call) s
+abbrev pub RunsByParts : Version → List ℕ → Call → Type 0
+RunsByParts v path call = (s : Having) → IsEmpty s.hand → Runs v path (BeginsWith v path) (program v call) s
 
 -- ---- the rest of a call
 
@@ -54,32 +54,32 @@ abbrev pub FillsOrStays : Whole → Whole → Type 0
 FillsOrStays w v = (v ≡ w) ⊎ IsFilled w v
 
 -- the rest of the call, if such a read's buffer has these bytes by then
-abbrev pub whole_with : List ℕ → Whole → List ℕ → programs.P Reply
-whole_with ns (whole.Read fd buf (reading.Part n offset)) text = read_of fd text (reading.Part n offset)
-whole_with ns w text = whole_of ns w
+abbrev pub whole_with : Version → List ℕ → Whole → List ℕ → programs.P Reply
+whole_with v ns (whole.Read fd buf (reading.Part n offset)) text = read_of fd text (reading.Part n offset)
+whole_with v ns w text = whole_of v ns w
 
 -- the part's program, and then the call's, with the text that the part hands over
 abbrev pub with_text : Super → Part → (List ℕ → programs.P Reply) → P Reply
 with_text sizes q p = bind q (λ r. lowered sizes r.carry (hears_in sizes (p r.answer.0) r.answer))
 
 abbrev pub lowered_left : Lowered → Hand → P Reply
-lowered_left l h = with_text l.sizes (part_left (text_in l.call) l.notes l.part h) (whole_with l.list l.call)
+lowered_left l h = with_text l.sizes (part_left (text_in l.call) l.notes l.part h) (whole_with l.sizes.version l.list l.call)
 
 abbrev pub lowered_asked : Lowered → Op
 lowered_asked l = part_asked l.part
 
 -- The program runs from some start on. Its first operation began there, and the operation's part is under way.
-pub record IsOnWay (path : List ℕ) (p : programs.P Reply) (q : InodePart) (now : Having) : Type 0 where
+pub record IsOnWay (v : Version) (path : List ℕ) (p : programs.P Reply) (q : InodePart) (now : Having) : Type 0 where
   pub op : above.Op
   pub start : Having
   pub asked : asks p ≡ Some op
-  pub runs : Runs path (BeginsWith path) p start
-  pub under : UnderWay path op start q now
+  pub runs : Runs v path (BeginsWith v path) p start
+  pub under : UnderWay v path op start q now
 
 pub record LoweredReady (l : Lowered) (h : Hand) : Type 0 where
   pub sized : IsSized l.sizes
-  pub fits : WholeFits l.list l.call
+  pub fits : WholeFits l.sizes.version l.list l.call
   pub ready : PartReady l.part h
   pub told : PartTold (first_in l.call) (second_in l.call) l.part
   pub reads : ReadsInto l.part → IsReading l.call
-  pub way : IsOnWay (text_in l.call) (whole_of l.list l.call) l.part (having h l.notes)
+  pub way : IsOnWay l.sizes.version (text_in l.call) (whole_of l.sizes.version l.list l.call) l.part (having h l.notes)

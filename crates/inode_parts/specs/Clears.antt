@@ -1,6 +1,6 @@
 -- A name cleared, as a part.
 use Rattle.std.specs.Prelude.{◌≡◌, ◌<◌, ℕ, List, true}
-use Rattle.inode_parts.specs.Vocabulary.{Name, same_name, Dinode, Super, bind, most_slots, cleared, Hand, InodePlace, Op, index_at, IsLoadedAt, clear_left, clear_asked, ClearReady, name_in}
+use Rattle.inode_parts.specs.Vocabulary.{Name, same_name, Dinode, Super, Version, bind, most_slots, cleared, Hand, InodePlace, Op, index_at, IsLoadedAt, clear_left, clear_asked, ClearReady, name_in}
 use Rattle.path_walk.specs.declared.asks.Heard.TheVariants as heard
 use Rattle.inode_parts.specs.Basics.{note_at, changed, IsAmid, MayChange, seat_of_lock, Part}
 use Rattle.inode_parts.specs.declared.note.Note.{Note}
@@ -26,9 +26,9 @@ abbrev pub ClearAmid : ℕ → Hand → ClearPart → Hand → Type 0
 ClearAmid n start p now = IsAmid n start p.seat now
 
 -- the search found this name, in a slot that a directory may have
-abbrev pub HasFound : List ℕ → Name → Note → Type 0
-HasFound path e (note.Finds x s) = (same_name (name_in path x) e ≡ true) × (s < most_slots)
-HasFound path e m = ⊥
+abbrev pub HasFound : Version → List ℕ → Name → Note → Type 0
+HasFound v path e (note.Finds x s) = (same_name (name_in path x) e ≡ true) × (s < most_slots v)
+HasFound v path e m = ⊥
 
 -- that slot
 abbrev pub slot_in : Note → ℕ
@@ -37,4 +37,4 @@ slot_in m = 0
 
 -- what it asks
 abbrev pub ClearBegins : Super → List ℕ → Notes → ℕ → Name → Hand → Type 0
-ClearBegins sizes path m n e h = MayChange sizes n h × HasFound path e (note_at (seat_of_lock n h) m)
+ClearBegins sizes path m n e h = MayChange sizes n h × HasFound sizes.version path e (note_at (seat_of_lock n h) m)

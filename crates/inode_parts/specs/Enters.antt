@@ -1,6 +1,6 @@
 -- A name entered, as a part.
 use Rattle.std.specs.Prelude.{◌≡◌, ◌*◌, ◌^◌, ◌<◌, ◌≤◌, ℕ, List, [], length}
-use Rattle.inode_parts.specs.Vocabulary.{piece_len, IsName, bits_per_block, Dinode, IndexState, Super, Ret, bind, EnteredState, Room, There, NoBlock, NoSlot, Hand, InodePlace, Op, with_index, enter_left, enter_asked, enter_seat, EnterReady, Ask}
+use Rattle.inode_parts.specs.Vocabulary.{piece_len, IsName, bits_per_block, Dinode, IndexState, Super, Version, Ret, bind, EnteredState, Room, There, NoBlock, NoSlot, Hand, InodePlace, Op, with_index, enter_left, enter_asked, enter_seat, EnterReady, Ask}
 use Rattle.path_walk.specs.declared.asks.Ask.TheVariants as ask
 use Rattle.path_walk.specs.declared.asks.Entered.TheVariants as entry
 use Rattle.path_walk.specs.declared.asks.Heard.TheVariants as heard
@@ -36,12 +36,12 @@ EnterAmid n start p now = IsAmid n start (enter_part_seat p) now
 
 -- what it asks: the disk's blocks have bits, and the name is one
 abbrev pub EnterBegins : Super → ℕ → List ℕ → Hand → Type 0
-EnterBegins sizes n name h = MayChange sizes n h × (sizes.size ≤ bits_per_block) × IsName name
+EnterBegins sizes n name h = MayChange sizes n h × (sizes.size ≤ bits_per_block) × IsName sizes.version name
 
 -- A name that is asked for is in one of the call's paths. There is room for what is read. A piece begins within its
 -- bytes, and no second text is after them.
-abbrev pub AskStands : List ℕ → List ℕ → Ask → Type 0
-AskStands path second (ask.Enter d e n) = StandsIn path second e
-AskStands path second (ask.ReadFile fd n offset count) = (count ≤ length path) × (count < 2 ^ 32) × (second ≡ [])
-AskStands path second (ask.WriteFile fd n offset i) = (piece_len * i ≤ length path) × (second ≡ [])
-AskStands path second a = Unit {0}
+abbrev pub AskStands : Version → List ℕ → List ℕ → Ask → Type 0
+AskStands v path second (ask.Enter d e n) = StandsIn v path second e
+AskStands v path second (ask.ReadFile fd n offset count) = (count ≤ length path) × (count < 2 ^ 32) × (second ≡ [])
+AskStands v path second (ask.WriteFile fd n offset i) = (piece_len * i ≤ length path) × (second ≡ [])
+AskStands v path second a = Unit {0}

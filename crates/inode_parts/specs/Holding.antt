@@ -1,6 +1,6 @@
 -- What an operation on whole inodes leaves in hand, and programs that find in hand what their operations ask.
 use Rattle.std.specs.Prelude.{◌≡◌, ◌<◌, ◌^◌, ℕ, List, [], ◌∷◌, ◌++◌, Bool, true, false, Option, Some, None, IsSome, IfSome}
-use Rattle.inode_parts.specs.Vocabulary.{Reply, Ret, Do, GuardState, Inode, Hand, InodePlace, inode_at, with_aside, with_first, with_inode, with_listed, with_reference, with_seated, with_txn, IsEmpty, unloaded, IsLoadedAt, AtEntries, AtName, AtNothing, Query, Sight}
+use Rattle.inode_parts.specs.Vocabulary.{Reply, Version, Ret, Do, GuardState, Inode, Hand, InodePlace, inode_at, with_aside, with_first, with_inode, with_listed, with_reference, with_seated, with_txn, IsEmpty, unloaded, IsLoadedAt, AtEntries, AtName, AtNothing, Query, Sight}
 use Rattle.inode_machine.specs.Inodes.{Face}
 use Rattle.inode_machine.specs.Parts as programs
 use Rattle.inode_machine.specs.World as above
@@ -167,15 +167,15 @@ Stand k before after = note_at (other k) after.notes ≡ note_at (other k) befor
 abbrev pub StandBeside : ℕ → Having → Having → Type 0
 StandBeside n before after = Stand (seat_of_lock n before.hand) before after
 
-abbrev pub Learns : List ℕ → Query → Sight → Note → Type 0
-Learns path AtNothing a m = Unit {0}
-Learns path (AtName e) a m = IsSome a.found → HasFound path e m
-Learns path AtEntries a m = Unit {0}
+abbrev pub Learns : Version → List ℕ → Query → Sight → Note → Type 0
+Learns v path AtNothing a m = Unit {0}
+Learns v path (AtName e) a m = IsSome a.found → HasFound v path e m
+Learns v path AtEntries a m = Unit {0}
 
 -- of an inode by the seat at which its lock is then
-abbrev pub LearnsBy : List ℕ → ℕ → Query → Sight → Having → Having → Type 0
-LearnsBy path n looking a before after = Stand (seat_of_lock n after.hand) before after
-    × Learns path looking a (note_at (seat_of_lock n after.hand) after.notes)
+abbrev pub LearnsBy : Version → List ℕ → ℕ → Query → Sight → Having → Having → Type 0
+LearnsBy v path n looking a before after = Stand (seat_of_lock n after.hand) before after
+    × Learns v path looking a (note_at (seat_of_lock n after.hand) after.notes)
 
 -- by which descriptor it was locked, and that file's offset
 abbrev pub LearnsFile : (fd n offset : ℕ) → Having → Type 0
@@ -186,27 +186,27 @@ LearnsLocked fd (above.LocksIt n offset) after = LearnsFile fd n offset after
 LearnsLocked fd (above.NotLocked why) after = Unit {0}
 
 -- a descriptor's inode is locked with no other
-abbrev pub LeavesNotes : List ℕ → (op : above.Op) → above.Answer op → Having → Having → Type 0
-LeavesNotes path (above.Take n looking) a before after = LearnsBy path n looking a before after
-LeavesNotes path (above.Down n) a before after = Stand (seat_of_reference n before.hand) before after
-LeavesNotes path (above.Free n) a before after = StandBeside n before after
-LeavesNotes path (above.Store n count) a before after = StandBeside n before after
-LeavesNotes path (above.Fill n d) a before after = StandBeside n before after
-LeavesNotes path (above.Enter d e n) a before after = StandBeside d before after
-LeavesNotes path (above.Clear d e) a before after = StandBeside d before after
-LeavesNotes path (above.Empty n) a before after = StandBeside n before after
-LeavesNotes path (above.StatFile fd) a before after = Unit {0}
-LeavesNotes path (above.LockFile fd) a before after = LearnsLocked fd a after
-LeavesNotes path (above.LockOpen fd n) a before after = LearnsFile fd a.0 a.1 after
-LeavesNotes path op a before after = after.notes ≡ before.notes
+abbrev pub LeavesNotes : Version → List ℕ → (op : above.Op) → above.Answer op → Having → Having → Type 0
+LeavesNotes v path (above.Take n looking) a before after = LearnsBy v path n looking a before after
+LeavesNotes v path (above.Down n) a before after = Stand (seat_of_reference n before.hand) before after
+LeavesNotes v path (above.Free n) a before after = StandBeside n before after
+LeavesNotes v path (above.Store n count) a before after = StandBeside n before after
+LeavesNotes v path (above.Fill n d) a before after = StandBeside n before after
+LeavesNotes v path (above.Enter d e n) a before after = StandBeside d before after
+LeavesNotes v path (above.Clear d e) a before after = StandBeside d before after
+LeavesNotes v path (above.Empty n) a before after = StandBeside n before after
+LeavesNotes v path (above.StatFile fd) a before after = Unit {0}
+LeavesNotes v path (above.LockFile fd) a before after = LearnsLocked fd a after
+LeavesNotes v path (above.LockOpen fd n) a before after = LearnsFile fd a.0 a.1 after
+LeavesNotes v path op a before after = after.notes ≡ before.notes
 
-abbrev pub Leaves : List ℕ → (op : above.Op) → above.Answer op → Having → Having → Type 0
-Leaves path op a before after = LeavesHand op a before.hand after.hand × LeavesNotes path op a before after
+abbrev pub Leaves : Version → List ℕ → (op : above.Op) → above.Answer op → Having → Having → Type 0
+Leaves v path op a before after = LeavesHand op a before.hand after.hand × LeavesNotes v path op a before after
 
 -- ---- a program with this in hand
 
 -- Each of its operations finds in hand what it asks, whatever those before it answered; and at its end nothing is in
 -- hand.
-unfoldable pub Runs : List ℕ → (above.Op → Having → Type 0) → programs.P Reply → Having → Type 0
-Runs path Begins (Ret r) s = IsEmpty s.hand
-Runs path Begins (Do op m k) s = Begins op s × ((a : above.Answer op) (t : Having) → Leaves path op a s t → Runs path Begins (k a) t)
+unfoldable pub Runs : Version → List ℕ → (above.Op → Having → Type 0) → programs.P Reply → Having → Type 0
+Runs v path Begins (Ret r) s = IsEmpty s.hand
+Runs v path Begins (Do op m k) s = Begins op s × ((a : above.Answer op) (t : Having) → Leaves v path op a s t → Runs v path Begins (k a) t)

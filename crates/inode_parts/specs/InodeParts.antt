@@ -1,6 +1,6 @@
 -- Operations on whole inodes, each as a part over blocks.
 use Rattle.std.specs.Prelude.{◌≡◌, ℕ, Bool, true, false, List, [], Option, Some, None}
-use Rattle.inode_parts.specs.Vocabulary.{Ret, bind, Hand, Op, finish_left, finish_asked, FinishReady, Ask, Heard}
+use Rattle.inode_parts.specs.Vocabulary.{Ret, bind, Hand, Op, finish_left, finish_asked, FinishReady, Ask, Heard, Version}
 use Rattle.fs_machine.specs.declared.finish.Finish.TheVariants as finish
 use Rattle.inode_machine.specs.World as above
 use Rattle.path_walk.specs.declared.asks.Ask.TheVariants as ask
@@ -92,9 +92,9 @@ PartTold path second (part.ReadFile p) = ReadFileTold path p × (second ≡ [])
 PartTold path second (part.WriteFile p) = WriteFileTold path p × (second ≡ [])
 PartTold path second p = Unit {0}
 
-abbrev pub AskTold : List ℕ → List ℕ → Ask → Type 0
-AskTold path second (ask.Take n q) = IsTold path second q
-AskTold path second a = Unit {0}
+abbrev pub AskTold : Version → List ℕ → List ℕ → Ask → Type 0
+AskTold v path second (ask.Take n q) = IsTold v path second q
+AskTold v path second a = Unit {0}
 
 -- that of an operation which is one below, or leaves a transaction
 abbrev pub one_or_leave : Option OneStep → InodePart

@@ -22,15 +22,15 @@ one text lop heard carry = Do lop unmarked (λ a. Ret (record { answer = (text, 
 
 -- it is the program of an operation on whole inodes, on a disk of these sizes
 abbrev pub IsPart : Super → Carry → Op → Part → Type 0
-IsPart sizes = layers.IsPart machine (below sizes) (handlers sizes) answer_by
+IsPart sizes = layers.IsPart (machine sizes.version) (below sizes) (handlers sizes) answer_by
 
 -- a call's program below, and the same with a part of its next operation in front
 abbrev pub lowered : Super → Carry → above.P Reply → P Reply
-lowered sizes c p = layers.below machine (below sizes) (handlers sizes) answer_by c p
+lowered sizes c p = layers.below (machine sizes.version) (below sizes) (handlers sizes) answer_by c p
 
 -- how a call goes on with what a part hands over
 abbrev pub hears_in : Super → above.P Reply → Message → above.P Reply
-hears_in sizes = layers.hears machine (below sizes) (handlers sizes) answer_by
+hears_in sizes = layers.hears (machine sizes.version) (below sizes) (handlers sizes) answer_by
 
 abbrev pub with_part : Super → Part → above.P Reply → P Reply
-with_part sizes q p = layers.with_part machine (below sizes) (handlers sizes) answer_by q p
+with_part sizes q p = layers.with_part (machine sizes.version) (below sizes) (handlers sizes) answer_by q p

@@ -2,18 +2,17 @@
 use Rattle.std.specs.Prelude.{◌≡◌, ◌≢◌, ◌<◌, ◌^◌, ℕ, List, [], ◌∷◌, None}
 use Rattle.inode_parts.specs.Vocabulary.{Super, bind, inode_block, Hand, Op, first_listed, inode_at, number_at, reference_at, with_first, HasNoBuffer, lock_left, lock_loaded, lock_asked, lock_seat, LockReady}
 use Rattle.fs_machine.specs.declared.op.Op.TheVariants as ops
-use Rattle.path_walk.specs.declared.asks.Query.TheVariants as query
 use Rattle.inode_parts.specs.Basics.{Comes, HasReference, IsAlone, free_seat, Part, beside_in}
-use Rattle.inode_parts.specs.Takes.{looked}
+use Rattle.inode_parts.specs.Takes.{only_seen}
 use Rattle.inode_parts.specs.declared.note.Notes.{Notes}
 use Rattle.inode_parts.specs.declared.relock_part.RelockPart.{RelockPart}
 use Rattle.inode_parts.specs.declared.relock_part.RelockPart.TheVariants as relock
 
 abbrev pub relock_left : List ℕ → Notes → RelockPart → Hand → Part
 relock_left path m (relock.Locking k inodestart) h =
-    bind (lock_loaded inodestart (first_listed h)) (looked path query.Nothing (beside_in path m k h) (first_listed h))
+    bind (lock_loaded inodestart (first_listed h)) (only_seen path (beside_in path m k h) (first_listed h))
 relock_left path m (relock.Loading r) h =
-    bind (lock_left r h) (looked path query.Nothing (beside_in path m (lock_seat r) h) (number_at (lock_seat r) h))
+    bind (lock_left r h) (only_seen path (beside_in path m (lock_seat r) h) (number_at (lock_seat r) h))
 
 abbrev pub relock_asked : RelockPart → Op
 relock_asked (relock.Locking k inodestart) = ops.LockListed k

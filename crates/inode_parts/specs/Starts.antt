@@ -16,5 +16,5 @@ pub record HasStarted (sizes : Super) (op : above.Op) (before : Hand) (p : Inode
   pub part : (path : List ℕ) (m : Notes) → IsPart sizes (carry_in path m before) op (part_left path m p after)
   pub ready : PartReady p after
   pub told : (first second : List ℕ) → PartTold first second p
-  pub under : (path : List ℕ) (m : Notes) → UnderWay path op (having before m) p (having after m)
+  pub under : (path : List ℕ) (m : Notes) → UnderWay sizes.version path op (having before m) p (having after m)
   pub hand : bare after ≡ bare before

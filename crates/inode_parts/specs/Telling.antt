@@ -22,9 +22,9 @@ part_of l h = part_left (text_in l.call) l.notes l.part h
 
 -- The call's next operation is asked, and its part begins, with this in hand.
 pub record AsksNext (sizes : Super) (c : Carry) (p : programs.P Reply) (l : Lowered) (h : Hand) : Type 0 where
-  pub left : p ≡ whole_of l.list l.call
+  pub left : p ≡ whole_of sizes.version l.list l.call
   pub op : above.Op
-  pub asked : asks (whole_of l.list l.call) ≡ Some op
+  pub asked : asks (whole_of sizes.version l.list l.call) ≡ Some op
   pub part : IsPart sizes c op (part_of l h)
   pub fills : IsReading l.call → FillsFrom (text_in l.call) (part_of l h)
 
@@ -36,7 +36,7 @@ AsksOrEnds sizes c p (Some end) l h = p ≡ Ret (reply_to (call_in l.call) l.say
 -- The part goes on by this answer. What has room in the call's buffer after the step has room there before it.
 pub record PartGoesOn (l : Lowered) (h : Hand) (answer : (o : steps.Op) → steps.Answer o) (k : Lowered) (g : Hand) : Type 0 where
   pub goes : Goes (part_of l h) answer (part_of k g)
-  pub call : whole_with k.list k.call ≡ whole_with l.list l.call
+  pub call : whole_with l.sizes.version k.list k.call ≡ whole_with l.sizes.version l.list l.call
   pub room : (x : Heard) → HasRoomFor x k.call → HasRoomFor x l.call
 
 -- The part ends by this answer, and the call goes on by what it hears, which has room in the call's buffer.
@@ -45,7 +45,7 @@ pub record PartEnds (l : Lowered) (h : Hand) (answer : (o : steps.Op) → steps.
   pub ends : Handover Message Carry
   pub goes : Goes (part_of l h) answer (Ret ends)
   pub heard : ends.answer.1 ≡ k.heard
-  pub call : AsksOrEnds l.sizes ends.carry (hears_in l.sizes (whole_with l.list l.call ends.answer.0) ends.answer) out k g
+  pub call : AsksOrEnds l.sizes ends.carry (hears_in l.sizes (whole_with l.sizes.version l.list l.call ends.answer.0) ends.answer) out k g
   pub room : HasRoomFor k.heard l.call
 
 abbrev pub GoesOrEnds : Lowered → Hand → ((o : steps.Op) → steps.Answer o) → Option (Unit {0}) → Bool → Lowered → Hand → Type 0

@@ -3,7 +3,7 @@ pub use Rattle.inodes_on_blocks.specs.Vocabulary.{AtEntries, AtName, AtNothing, 
 unfoldable pub use Rattle.inodes_on_blocks.specs.Vocabulary.{put, same_name}
 pub use Rattle.inode_data.specs.Vocabulary.{CanDo, Goes, GuardState, IsAfter, IsLoadedAt, MatchOption, P, Prepared, RecordReady, asks, bare, bits_per_block, inode_at, inode_in, left_after, number_in, op_in, option_map_or, record_asked, record_in, record_left, record_of, record_place, record_seat, unloaded, with_buffer}
 unfoldable pub use Rattle.inode_data.specs.Vocabulary.{answer_in}
-pub use Rattle.whole_calls.specs.Vocabulary.{IsElement, count_in, file_for, has, name_in, op_in as above_op, piece, piece_len, program, reply_to, type_of}
+pub use Rattle.whole_calls.specs.Vocabulary.{count_in, file_for, has, name_in, op_in as above_op, piece, piece_len, program, reply_to, type_of}
 pub use Rattle.directory.specs.Vocabulary.{IfBegun, IsName, WriteReady, begun_of, write_asked, write_left}
 pub use Rattle.file_table.specs.Vocabulary.{beside_lock}
 pub use Rattle.inode_data.specs.Emptying.{HasNoBuffer, IsEmptying, TruncateReady, emptying_of, truncate_asked, truncate_left}
@@ -37,12 +37,12 @@ pub use Rattle.inode_data.specs.FreeingInodes.{FreeingReady, freeing_asked, free
 pub use Rattle.inode_data.specs.PartReading.{ReadReady, filled_to, read_asked, read_count, read_left}
 pub use Rattle.inode_data.specs.PartWriting.{IsWithin}
 pub use Rattle.inode_data.specs.declared.write_part.WritePart.{WritePart}
-pub use Rattle.inode_machine.specs.VersionOne.{machine}
+pub use Rattle.inode_machine.specs.Rules.{machine}
 pub use Rattle.inode_table.specs.Making.{NewReady, beside_new, new_asked, new_left, new_seat, new_value}
 pub use Rattle.inode_table.specs.declared.new_inode.Made.{Made}
 pub use Rattle.inodes_on_blocks.specs.Programs.{handlers}
 pub use Rattle.inodes_on_blocks.specs.Writing.{refused_in}
-pub use Rattle.path_walk.specs.Elements.{IsInOne}
+pub use Rattle.path_walk.specs.Elements.{IsElement, IsInOne}
 pub use Rattle.path_walk.specs.declared.asks.Claimed.{Claimed}
 pub use Rattle.path_walk.specs.declared.asks.InodeType.{InodeType}
 pub use Rattle.path_walk.specs.declared.asks.Wrote.{Wrote}
@@ -51,6 +51,7 @@ pub use Rattle.whole_calls.specs.declared.whole.Whole.{Whole}
 pub use Rattle.directory.specs.declared.found.Found.{Found}
 pub use Rattle.fs_layout.specs.declared.inode.Dinode.{Dinode}
 pub use Rattle.fs_layout.specs.declared.superblock.Super.{Super}
+pub use Rattle.image_versions.specs.declared.version.Version.{Version}
 pub use Rattle.fs_machine.specs.InMemory.{IndexState, Inode, Loaded, no_index, stands_so, unindexed}
 pub use Rattle.inode_table.specs.HeldInodes.{loaded_in}
 pub use Rattle.fs_machine.specs.declared.files.OpenFile.{OpenFile}

@@ -1,6 +1,6 @@
 //! What is in a call's text: names in its path or its two, and the pieces of its bytes.
 ghost use Rattle.std.specs.Prelude.{◌≡◌, ◌++◌, ◌≤◌, ◌*◌, length};
-ghost use Rattle.inode_parts.specs.Vocabulary.{name_in, piece, piece_len};
+ghost use Rattle.inode_parts.specs.Vocabulary.{name_in, piece, piece_len, Version};
 ghost use Rattle.inode_parts.specs.Texts.{StandsIn};
 
 use path_walk::Element;
@@ -9,7 +9,7 @@ const PIECE_LEN: usize = 3072;
 
 /// The name of an element of a path, or of the second one after it.
 pub(crate) fn name<'a>(path: &'a [u8], second: &'a [u8], element: &Element) -> &'a [u8]
-    requires { StandsIn path.now second.now element.now }
+    requires { (version : Version) × StandsIn version path.now second.now element.now }
     ensures { result.now ≡ name_in (path.now ++ second.now) element.now }
 {
     let len = path.len();

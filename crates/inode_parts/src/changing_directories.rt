@@ -1,7 +1,7 @@
 //! Operations that change a directory, each as a part: a name is entered or cleared, or the names of a new one are
 //! written.
 ghost use Rattle.std.specs.Prelude.{◌≡◌, ℕ, List};
-ghost use Rattle.inode_parts.specs.Vocabulary.{Name, Ret, bare, Hand as HandState, HasNoBuffer, IsLoadedAt, entered_as};
+ghost use Rattle.inode_parts.specs.Vocabulary.{Name, Ret, Version, bare, Hand as HandState, HasNoBuffer, IsLoadedAt, entered_as};
 ghost use Rattle.inode_machine.specs.World as world;
 ghost use Rattle.inode_parts.specs.Starts.{carry_in, having, part_left, HasStarted, IsPart, PartReady, PartTold, UnderWay};
 ghost use Rattle.inode_parts.specs.Carries.{handed, note_at};
@@ -127,11 +127,12 @@ impl InodePart {
         ensures ready { PartReady self.new hand.now }
         ensures told { (first second : List ℕ) → PartTold first second self.new }
         ensures under { (path : List ℕ) (name : Name)
-            → UnderWay path (world.Clear number name) (having hand.now notes.now) self.new (having hand.now notes.now) }
+            → UnderWay sizes.now.version path (world.Clear number name) (having hand.now notes.now) self.new (having hand.now notes.now) }
     {
         let seat = lock_seat(hand, number);
         let slot = found_slot(notes, seat);
         let clear = Clear::new(Slot {
+            version: sizes.version,
             inode: *record_at(hand, seat),
             number,
             inodestart: sizes.inodestart,
@@ -182,7 +183,7 @@ impl Operation for ClearPart {
 
 // The slot that was found in the directory at a seat.
 fn found_slot(notes: &Notes, seat: InodePlace) -> u32
-    requires { (path : List ℕ) × (name : Name) × HasFound path name (note_at seat notes.now) }
+    requires { (version : Version) × (path : List ℕ) × (name : Name) × HasFound version path name (note_at seat notes.now) }
     ensures { result ≡ slot_in (note_at seat notes.now) }
 {
     match notes.at(seat) {

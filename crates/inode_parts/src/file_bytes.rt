@@ -3,7 +3,7 @@ ghost use Rattle.std.specs.Prelude.{◌≡◌, ℕ, [], ◌<◌, ◌≤◌, ◌^
 ghost use Rattle.inode_parts.specs.Carries.{note_at, handed};
 ghost use Rattle.inode_parts.specs.OneSteps.{seat_of_lock};
 ghost use Rattle.inode_parts.specs.declared.note.Note.TheVariants as note;
-ghost use Rattle.inode_parts.specs.Vocabulary.{Super as SuperState, asks, op_in, answer_in, CanDo, Prepared, IsAfter, Goes, left_after, Hand as HandState, Reads, count_in, piece, piece_len, most_bytes, bare, inode_at, with_record, IsWithin, Writes, refused_in};
+ghost use Rattle.inode_parts.specs.Vocabulary.{Super as SuperState, Version, asks, op_in, answer_in, CanDo, Prepared, IsAfter, Goes, left_after, Hand as HandState, Reads, count_in, piece, piece_len, most_bytes, bare, inode_at, with_record, IsWithin, Writes, refused_in};
 ghost use Rattle.inode_parts.specs.Starts.{carry_in, having, part_left, IsPart, Notes as NotesState, PartReady, PartTold, UnderWay};
 ghost use Rattle.inode_parts.specs.Expecting.{HasOpened};
 ghost use Rattle.inode_parts.specs.FileReads.{read_file_left, read_file_asked, FillsFrom, ReadFileAmid, ReadFileReady, ReadFileTold};
@@ -70,8 +70,8 @@ impl InodePart {
         ensures fills { (path : List ℕ) → FillsFrom path (part_left path notes.now self.new hand.now) }
         ensures ready { PartReady self.new hand.now }
         ensures told { (path : List ℕ) → count ≤ length path → PartTold path [] self.new }
-        ensures under { (path : List ℕ) (offset : ℕ)
-            → UnderWay path (Reads fd number offset count) (having hand.now notes.now) self.new (having hand.now notes.now) }
+        ensures under { (version : Version) (path : List ℕ) (offset : ℕ)
+            → UnderWay version path (Reads fd number offset count) (having hand.now notes.now) self.new (having hand.now notes.now) }
     {
         let file = locked_file(number, fd, notes, hand);
         let inode = record_at(hand, file.seat);
@@ -112,10 +112,10 @@ impl ReadFilePart {
         ensures ready { IfNone (heard_if result heard.new) (ReadFileReady self.new hand.now) }
         ensures told { IfNone (heard_if result heard.new) (ReadFileTold text.new self.new) }
         ensures count { IfSome (heard_if result heard.new) (λ x. count_in x ≤ length text.new) }
-        ensures leaves { (path : List ℕ) (notes : NotesState) (fd n offset count : ℕ) (start before : HandState)
+        ensures leaves { (version : Version) (path : List ℕ) (notes : NotesState) (fd n offset count : ℕ) (start before : HandState)
             → ReadFileAmid n start self.old before → ReadFileReady self.old before
             → IsAfter (read_file_asked self.old) before answer.now hand.now
-            → StaysOrLeaves (ReadFileAmid n start self.new) path (Reads fd n offset count) (heard_if result heard.new)
+            → StaysOrLeaves version (ReadFileAmid n start self.new) path (Reads fd n offset count) (heard_if result heard.new)
             (having start notes) (having hand.now notes) }
     {
         match self {
@@ -169,8 +169,8 @@ impl InodePart {
             (part_left text.now notes.now self.new hand.now) }
         ensures ready { PartReady self.new hand.now }
         ensures told { PartTold text.now [] self.new }
-        ensures under { (path bytes : List ℕ) (offset : ℕ)
-            → UnderWay path (Writes fd number offset bytes) (having hand.now notes.now) self.new (having hand.now notes.now) }
+        ensures under { (version : Version) (path bytes : List ℕ) (offset : ℕ)
+            → UnderWay version path (Writes fd number offset bytes) (having hand.now notes.now) self.new (having hand.now notes.now) }
     {
         let file = locked_file(number, fd, notes, hand);
         let inode = record_at(hand, file.seat);
@@ -215,10 +215,10 @@ impl WriteFilePart {
             (left_after (write_file_left text.now) (handed text.now notes) (heard_if result heard.new) self.new hand.new) }
         ensures ready { IfNone (heard_if result heard.new) (WriteFileReady self.new hand.new) }
         ensures told { IfNone (heard_if result heard.new) (WriteFileTold text.now self.new) }
-        ensures leaves { (path : List ℕ) (notes : NotesState) (fd n offset : ℕ) (bytes : List ℕ) (start before : HandState)
-            → WriteFileAmid n start self.old before → WriteFileReady self.old before
+        ensures leaves { (version : Version) (path : List ℕ) (notes : NotesState) (fd n offset : ℕ) (bytes : List ℕ)
+            (start before : HandState) → WriteFileAmid n start self.old before → WriteFileReady self.old before
             → IsAfter (write_file_asked self.old) before answer.now hand.old
-            → StaysOrLeaves (WriteFileAmid n start self.new) path (Writes fd n offset bytes) (heard_if result heard.new)
+            → StaysOrLeaves version (WriteFileAmid n start self.new) path (Writes fd n offset bytes) (heard_if result heard.new)
             (having start notes) (having hand.new notes) }
         ensures hand { bare hand.new ≡ bare hand.old }
     {

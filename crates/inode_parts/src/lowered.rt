@@ -1,6 +1,6 @@
 //! A call over whole inodes, run below.
 ghost use Rattle.std.specs.Prelude.{◌≡◌, Some, None, IfSome, IfNone};
-ghost use Rattle.inode_parts.specs.Vocabulary.{Reply as ReplyState, program, OpAbove, reply_to, call_in, first_in, second_in, text_in, HasRoomFor, IsCall, nothing, IsEmpty, bare, Goes, answer_in, IsAfter, Hand as HandState};
+ghost use Rattle.inode_parts.specs.Vocabulary.{Reply as ReplyState, Version, program, OpAbove, reply_to, call_in, first_in, second_in, text_in, HasRoomFor, IsCall, nothing, IsEmpty, bare, Goes, answer_in, IsAfter, Hand as HandState};
 ghost use Rattle.inode_parts.specs.Parts.{lowered};
 ghost use Rattle.inode_parts.specs.Calls.{lowered_left, lowered_asked, path_of, FillsOrStays, IsReading, LoweredReady, RunsByParts};
 ghost use Rattle.inode_parts.specs.Holding.{Having};
@@ -15,6 +15,7 @@ use crate::note::Notes;
 use crate::part::InodePart;
 use fs_layout::Super;
 use fs_machine::{Answer, Control, Hand, Op};
+use image_versions::Version;
 use inode_table::NewInode;
 use path_walk::{Heard, Numbers};
 use plain_tree::{Answer as CallAnswer, Call, Reply};
@@ -24,6 +25,7 @@ use whole_calls::{Dup, Whole};
 
 // The sizes of no disk.
 const NO_SIZES: Super = Super {
+    version: Version::One,
     size: 0,
     nblocks: 0,
     ninodes: 0,
@@ -67,12 +69,12 @@ impl Lowered {
     /// A call begins in this place, on a disk of these sizes, of a hart with nothing in hand.
     #[inline(always)]
     pub fn start(&mut self, sizes: &Super, call: Call, hand: &mut Hand)
-        requires call { IsCall call }
-        requires runs { RunsByParts (path_of call) call }
+        requires call { IsCall sizes.now.version call }
+        requires runs { RunsByParts sizes.now.version (path_of call) call }
         requires sizes { IsSized sizes.now }
         requires empty { IsEmpty hand.old }
-        ensures program { lowered_left self.new hand.new ≡ lowered sizes.now nothing (program call) }
-        ensures asks { BeginsAsking sizes.now nothing (program call) self.new hand.new }
+        ensures program { lowered_left self.new hand.new ≡ lowered sizes.now nothing (program sizes.now.version call) }
+        ensures asks { BeginsAsking sizes.now nothing (program sizes.now.version call) self.new hand.new }
         ensures ready { LoweredReady self.new hand.new }
         ensures hand { bare hand.new ≡ bare hand.old }
     {
@@ -158,10 +160,10 @@ fn part_next(
     ensures goes { (before : HandState) → PartReady part.old before → IsAfter (part_asked part.old) before answer.now hand.old
         → Goes (part_left (text_in call.old) notes.old part.old before) (answer_in (part_asked part.old) answer.now hand.old)
         (part_left_after (text_in call.new) notes.new (heard_if result heard.new) part.new hand.new) }
-    ensures under { (op : OpAbove) (start : Having) (before : HandState)
-        → UnderWay (text_in call.old) op start part.old (having before notes.old)
+    ensures under { (version : Version) (op : OpAbove) (start : Having) (before : HandState)
+        → UnderWay version (text_in call.old) op start part.old (having before notes.old)
         → PartReady part.old before → IsAfter (part_asked part.old) before answer.now hand.old
-        → GoesOrLeaves (text_in call.old) op start (heard_if result heard.new) part.new (having hand.new notes.new) }
+        → GoesOrLeaves version (text_in call.old) op start (heard_if result heard.new) part.new (having hand.new notes.new) }
     ensures ready { IfNone (heard_if result heard.new) (PartReady part.new hand.new) }
     ensures told { IfNone (heard_if result heard.new) (PartTold (first_in call.new) (second_in call.new) part.new) }
     ensures call { FillsOrStays call.old call.new }
@@ -212,7 +214,12 @@ impl Control for Lowered {
             &mut self.heard,
         ) {
             self.ended = true;
-            if self.call.next(&self.heard, &mut self.list, &mut self.says) {
+            if self.call.next(
+                self.sizes.version,
+                &self.heard,
+                &mut self.list,
+                &mut self.says,
+            ) {
                 Some(())
             } else {
                 let ask = self.call.ask();

@@ -1,6 +1,6 @@
 //! An operation on whole inodes as a part over blocks, of several steps.
 ghost use Rattle.std.specs.Prelude.{◌≡◌, ℕ, List, Some, IfNone};
-ghost use Rattle.inode_parts.specs.Vocabulary.{asks, op_in, answer_in, CanDo, Prepared, IsAfter, Goes, bare, left_after, Hand as HandState, Op as OpState, OpAbove};
+ghost use Rattle.inode_parts.specs.Vocabulary.{asks, op_in, answer_in, CanDo, Prepared, IsAfter, Goes, bare, left_after, Hand as HandState, Op as OpState, OpAbove, Version};
 ghost use Rattle.inode_parts.specs.Carries.{handed};
 ghost use Rattle.inode_parts.specs.Leaving.{heard_if, having, StaysOrLeaves};
 ghost use Rattle.inode_parts.specs.Parts.{Part};
@@ -54,9 +54,9 @@ pub trait Operation: Drop {
             → Goes (left text notes.old self.old before) (answer_in (asked self.old) answer.now hand.old)
             (left_after (left text notes.new) (handed text notes.new) (heard_if result heard.new) self.new hand.new) }
         ensures ready { IfNone (heard_if result heard.new) (Ready self.new hand.new) }
-        ensures leaves { (text : List ℕ) (a : About) (start before : HandState) → Amid a start self.old before → Ready self.old before
-            → IsAfter (asked self.old) before answer.now hand.old
-            → StaysOrLeaves (Amid a start self.new) text (above a) (heard_if result heard.new) (having start notes.old)
+        ensures leaves { (version : Version) (text : List ℕ) (a : About) (start before : HandState) → Amid a start self.old before
+            → Ready self.old before → IsAfter (asked self.old) before answer.now hand.old
+            → StaysOrLeaves version (Amid a start self.new) text (above a) (heard_if result heard.new) (having start notes.old)
             (having hand.new notes.new) }
         ensures hand { bare hand.new ≡ bare hand.old };
 }

@@ -1,6 +1,6 @@
 //! Operations on whole inodes, each as a part over blocks.
 ghost use Rattle.std.specs.Prelude.{◌≡◌, ◌++◌, ℕ, List, Some, None, IfSome, IfNone};
-ghost use Rattle.inode_parts.specs.Vocabulary.{Ret, asks, op_in, answer_in, CanDo, Prepared, IsAfter, Goes, bare, Hand as HandState, OpAbove, Take, above_op, query_in, first_in, second_in, text_in};
+ghost use Rattle.inode_parts.specs.Vocabulary.{Ret, asks, op_in, answer_in, CanDo, Prepared, IsAfter, Goes, bare, Hand as HandState, OpAbove, Take, Version, above_op, query_in, first_in, second_in, text_in};
 ghost use Rattle.inode_parts.specs.Expecting.{BeginsWith};
 ghost use Rattle.inode_parts.specs.Beginnings.{PartHasBegun, PartMayBegin};
 ghost use Rattle.inode_parts.specs.Carries.{carry_in};
@@ -140,13 +140,15 @@ impl InodePart {
     fn begin_take(&mut self, number: u32, query: Query, sizes: &Super, hand: &Hand)
         requires sizes { IsSized sizes.now }
         requires begins { (path : List ℕ) × (notes : NotesState)
-            × BeginsWith path (Take number (query_in path query)) (having hand.now notes) }
-        ensures part { (path : List ℕ) (notes : NotesState) → BeginsWith path (Take number (query_in path query)) (having hand.now notes)
+            × BeginsWith sizes.now.version path (Take number (query_in path query)) (having hand.now notes) }
+        ensures part { (path : List ℕ) (notes : NotesState)
+            → BeginsWith sizes.now.version path (Take number (query_in path query)) (having hand.now notes)
             → IsPart sizes.now (carry_in path notes hand.now) (Take number (query_in path query)) (part_left path notes self.new hand.now) }
         ensures ready { PartReady self.new hand.now }
-        ensures told { (path second : List ℕ) → IsTold path second query → PartTold path second self.new }
-        ensures under { (path : List ℕ) (notes : NotesState) → BeginsWith path (Take number (query_in path query)) (having hand.now notes)
-            → UnderWay path (Take number (query_in path query)) (having hand.now notes) self.new (having hand.now notes) }
+        ensures told { (path second : List ℕ) → IsTold sizes.now.version path second query → PartTold path second self.new }
+        ensures under { (path : List ℕ) (notes : NotesState)
+            → BeginsWith sizes.now.version path (Take number (query_in path query)) (having hand.now notes)
+            → UnderWay sizes.now.version path (Take number (query_in path query)) (having hand.now notes) self.new (having hand.now notes) }
     {
         let seat = reference_seat(hand, number);
         let there = refers_at(hand, seat, number);
@@ -208,10 +210,10 @@ impl InodePart {
             → IsAfter (part_asked self.old) before answer.now hand.old
             → Goes (part_left text notes.old self.old before) (answer_in (part_asked self.old) answer.now hand.old)
             (part_left_after text notes.new (heard_if result heard.new) self.new hand.new) }
-        ensures under { let text = text_in call.now in (op : OpAbove) (start : Having) (before : HandState)
-            → UnderWay text op start self.old (having before notes.old)
+        ensures under { let text = text_in call.now in (version : Version) (op : OpAbove) (start : Having) (before : HandState)
+            → UnderWay version text op start self.old (having before notes.old)
             → PartReady self.old before → IsAfter (part_asked self.old) before answer.now hand.old
-            → GoesOrLeaves text op start (heard_if result heard.new) self.new (having hand.new notes.new) }
+            → GoesOrLeaves version text op start (heard_if result heard.new) self.new (having hand.new notes.new) }
         ensures ready { IfNone (heard_if result heard.new) (PartReady self.new hand.new) }
         ensures told { IfNone (heard_if result heard.new) (PartTold (first_in call.now) (second_in call.now) self.new) }
         ensures stays { IfNone (heard_if result heard.new) (ReadsInto self.new → ⊥) }

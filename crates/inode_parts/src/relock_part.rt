@@ -1,13 +1,12 @@
 //! The first listed inode locked, to be freed.
 ghost use Rattle.std.specs.Prelude.{◌≡◌, ℕ, List};
-ghost use Rattle.inode_parts.specs.Vocabulary.{Ret, number_at, loaded_in, AtNothing, Take};
+ghost use Rattle.inode_parts.specs.Vocabulary.{Ret, number_at, loaded_in, AtNothing, Take, Version};
 ghost use Rattle.inode_parts.specs.Carries.{carry_in, handed};
 ghost use Rattle.inode_parts.specs.Parts.{IsPart};
 ghost use Rattle.inode_parts.specs.Relocks.{relock_left, relock_asked, RelockAmid, RelockBegins, RelockReady};
 ghost use Rattle.inode_parts.specs.Sides.{beside_in};
-ghost use Rattle.inode_parts.specs.Takes.{looked, IsTaken, Sees};
+ghost use Rattle.inode_parts.specs.Takes.{only_seen, IsTaken, Sees};
 ghost use Rattle.inode_parts.specs.declared.note.Notes.{Notes as NotesState};
-ghost use Rattle.path_walk.specs.declared.asks.Query.TheVariants as query;
 
 use crate::faces::face_unless_free;
 use crate::note::{Note, Notes};
@@ -98,8 +97,8 @@ impl Operation for RelockPart {
 fn seen(seat: InodePlace, notes: &mut Notes, hand: &Hand) -> Heard
     requires { IsTaken seat hand.now }
     ensures program { (path : List ℕ) → Ret (handed path notes.new result hand.now)
-        ≡ looked path query.Nothing (beside_in path notes.old seat hand.now) (number_at seat hand.now) (loaded_in seat hand.now) }
-    ensures sees { (path : List ℕ) → Sees path AtNothing seat result notes.old notes.new }
+        ≡ only_seen path (beside_in path notes.old seat hand.now) (number_at seat hand.now) (loaded_in seat hand.now) }
+    ensures sees { (version : Version) (path : List ℕ) → Sees version path AtNothing seat result notes.old notes.new }
 {
     let inode = record_at(hand, seat);
     notes.set(seat, Note::Nothing);

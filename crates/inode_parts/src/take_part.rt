@@ -1,6 +1,6 @@
 //! An inode locked, and what is looked for found in it.
 ghost use Rattle.std.specs.Prelude.{◌≡◌, ◌++◌, ℕ, List, true, not, Some, None, is_some, IfNone};
-ghost use Rattle.inode_parts.specs.Vocabulary.{asks, number_at, op_in, answer_in, CanDo, Prepared, IsAfter, Goes, left_after, bare, Hand as HandState, HasNoBuffer, loaded_in, IfBegun, Take, number_found, query_in, sight_in};
+ghost use Rattle.inode_parts.specs.Vocabulary.{asks, number_at, op_in, answer_in, CanDo, Prepared, IsAfter, Goes, left_after, bare, Hand as HandState, HasNoBuffer, loaded_in, IfBegun, Take, number_found, query_in, sight_in, Version};
 ghost use Rattle.inode_machine.specs.Inodes as whole;
 ghost use Rattle.inode_parts.specs.Carries.{carry_in, handed, with_note};
 ghost use Rattle.inode_parts.specs.Faces.{face_unless_free};
@@ -8,7 +8,7 @@ ghost use Rattle.inode_parts.specs.Holding.{IsCounted};
 ghost use Rattle.inode_parts.specs.Leaving.{heard_if, having, StaysOrLeaves};
 ghost use Rattle.inode_parts.specs.Sides.{beside_in};
 ghost use Rattle.inode_parts.specs.Parts.{IsPart};
-ghost use Rattle.inode_parts.specs.Takes.{looked, note_of, begun_if, taken_left, take_left, take_asked, take_query, take_seat, IsTaken, IsTold, Sees, TakeAmid, TakeBegins, TakeReady, TakeTold};
+ghost use Rattle.inode_parts.specs.Takes.{looked, note_of, begun_if, taken_left, take_left, take_asked, take_query, take_seat, take_version, IsTaken, IsTold, Sees, TakeAmid, TakeBegins, TakeReady, TakeTold};
 ghost use Rattle.inode_parts.specs.declared.note.Note.TheVariants as note;
 ghost use Rattle.inode_parts.specs.declared.note.Notes.{Notes as NotesState};
 ghost use Rattle.path_walk.specs.declared.asks.Heard.TheVariants as hearing;
@@ -20,19 +20,21 @@ use crate::places::reference_seat;
 use directory::{Found, Search, Sought};
 use fs_layout::{Dinode, Super};
 use fs_machine::{Answer, Hand, InodePlace, Op, Routine};
+use image_versions::Version;
 use inode_data::Begun;
 use inode_table::{LockInode, record_at};
 use path_walk::{Element, Heard, Query, Sight};
 
-/// The lock of an inode is taken, to which a reference is in hand, and the inode is looked at.
+/// The lock of an inode is taken, to which a reference is in hand, and the inode is looked at. The disk has this
+/// version.
 #[derive(Clone, Copy, Drop)]
 pub enum TakePart {
     /// It is locked and loaded, to look for this.
-    Locking(Query, LockInode),
+    Locking(Version, Query, LockInode),
     /// A name is sought in the directory at this seat.
-    Naming(InodePlace, Element, Search),
+    Naming(Version, InodePlace, Element, Search),
     /// An entry is sought, past the first two.
-    Listing(InodePlace, Search),
+    Listing(Version, InodePlace, Search),
 }
 
 impl TakePart {
@@ -42,12 +44,12 @@ impl TakePart {
         ensures part { (path : List ℕ) (notes : NotesState)
             → IsPart sizes.now (carry_in path notes hand.now) (Take number (query_in path query)) (take_left path notes result hand.now) }
         ensures ready { TakeReady result hand.now }
-        ensures told { (path second : List ℕ) → IsTold path second query → TakeTold path second result }
-        ensures amid { (path : List ℕ) → TakeAmid path number (query_in path query) hand.now result hand.now }
+        ensures told { (path second : List ℕ) → IsTold sizes.now.version path second query → TakeTold path second result }
+        ensures amid { (path : List ℕ) → TakeAmid sizes.now.version path number (query_in path query) hand.now result hand.now }
     {
         let seat = reference_seat(hand, number);
         let lock = LockInode::new(sizes.inodestart, seat);
-        TakePart::Locking(query, lock)
+        TakePart::Locking(sizes.version, query, lock)
     }
 
     /// The next operation.
@@ -59,9 +61,9 @@ impl TakePart {
         ensures prepared { Prepared result hand.old hand.new }
     {
         match self {
-            TakePart::Locking(_, lock) => lock.op(hand),
-            TakePart::Naming(_, _, search) => search.op(hand),
-            TakePart::Listing(_, search) => search.op(hand),
+            TakePart::Locking(_, _, lock) => lock.op(hand),
+            TakePart::Naming(_, _, _, search) => search.op(hand),
+            TakePart::Listing(_, _, search) => search.op(hand),
         }
     }
 
@@ -84,24 +86,24 @@ impl TakePart {
             (left_after (take_left text notes.new) (handed text notes.new) (heard_if result heard.new) self.new hand.new) }
         ensures ready { IfNone (heard_if result heard.new) (TakeReady self.new hand.new) }
         ensures told { IfNone (heard_if result heard.new) (TakeTold path.now second.now self.new) }
-        ensures leaves { let text = path.now ++ second.now in (n : ℕ) (looking : whole.Query) (start before : HandState)
-            → TakeAmid text n looking start self.old before
+        ensures leaves { let text = path.now ++ second.now in (version : Version) (n : ℕ) (looking : whole.Query) (start before : HandState)
+            → TakeAmid version text n looking start self.old before
             → TakeReady self.old before → IsAfter (take_asked self.old) before answer.now hand.old
-            → StaysOrLeaves (TakeAmid text n looking start self.new) text (Take n looking) (heard_if result heard.new)
+            → StaysOrLeaves version (TakeAmid version text n looking start self.new) text (Take n looking) (heard_if result heard.new)
             (having start notes.old) (having hand.new notes.new) }
         ensures hand { bare hand.new ≡ bare hand.old }
     {
         match self {
-            TakePart::Locking(query, lock) => match lock.next(answer, hand) {
+            TakePart::Locking(version, query, lock) => match lock.next(answer, hand) {
                 None => false,
                 Some(seat) => {
-                    let query = *query;
-                    self.look(query, path, second, seat, notes, hand, heard)
+                    let (version, query) = (*version, *query);
+                    self.look(version, query, path, second, seat, notes, hand, heard)
                 }
             },
-            TakePart::Naming(seat, element, search) => {
+            TakePart::Naming(version, seat, element, search) => {
                 let sought = Sought::Name(name(path, second, element));
-                match search.next(*seat, sought, answer, hand) {
+                match search.next(*version, *seat, sought, answer, hand) {
                     None => false,
                     Some(found) => {
                         let inode = record_at(hand, *seat);
@@ -110,8 +112,8 @@ impl TakePart {
                     }
                 }
             }
-            TakePart::Listing(seat, search) => {
-                match search.next(*seat, Sought::Entry, answer, hand) {
+            TakePart::Listing(version, seat, search) => {
+                match search.next(*version, *seat, Sought::Entry, answer, hand) {
                     None => false,
                     Some(found) => {
                         let inode = record_at(hand, *seat);
@@ -127,6 +129,7 @@ impl TakePart {
     // It is true if nothing more must be read for that. What was seen is in `heard` then.
     fn look(
         &mut self,
+        version: Version,
         query: Query,
         path: &[u8],
         second: &[u8],
@@ -137,15 +140,15 @@ impl TakePart {
     ) -> bool
         requires taken { IsTaken seat hand.now }
         requires free { HasNoBuffer hand.now }
-        requires told { IsTold path.now second.now query }
+        requires told { IsTold version path.now second.now query }
         ensures program { let text = path.now ++ second.now in taken_left text notes.new (begun_if result self.new heard.new) hand.now
-            ≡ looked text query (beside_in text notes.old seat hand.now) (number_at seat hand.now) (loaded_in seat hand.now) }
+            ≡ looked version text query (beside_in text notes.old seat hand.now) (number_at seat hand.now) (loaded_in seat hand.now) }
         ensures ready { IfBegun (λ p. TakeReady p hand.now) (λ _. Unit {0}) (begun_if result self.new heard.new) }
         ensures told { IfBegun (λ p. TakeTold path.now second.now p) (λ _. Unit {0}) (begun_if result self.new heard.new) }
-        ensures looks { IfBegun (λ p. (take_seat p ≡ seat) × (take_query p ≡ query) × (notes.new ≡ notes.old)) (λ _. Unit {0})
-            (begun_if result self.new heard.new) }
+        ensures looks { IfBegun (λ p. (take_seat p ≡ seat) × (take_query p ≡ query) × (notes.new ≡ notes.old) × (take_version p ≡ version))
+            (λ _. Unit {0}) (begun_if result self.new heard.new) }
         ensures sees { let text = path.now ++ second.now in
-            IfBegun (λ _. Unit {0}) (λ x. Sees text (query_in text query) seat x notes.old notes.new)
+            IfBegun (λ _. Unit {0}) (λ x. Sees version text (query_in text query) seat x notes.old notes.new)
             (begun_if result self.new heard.new) }
     {
         let inode = record_at(hand, seat);
@@ -155,23 +158,28 @@ impl TakePart {
                 saw(inode, None, true, heard);
                 true
             }
-            Query::Name(element) => match Search::lookup(hand, seat, name(path, second, &element)) {
+            Query::Name(element) => match Search::lookup(
+                version,
+                hand,
+                seat,
+                name(path, second, &element),
+            ) {
                 Begun::Is(found) => {
                     named(inode, seat, element, found, notes, heard);
                     true
                 }
                 Begun::Runs(search) => {
-                    *self = TakePart::Naming(seat, element, search);
+                    *self = TakePart::Naming(version, seat, element, search);
                     false
                 }
             },
-            Query::Entries => match Search::entries(hand, seat) {
+            Query::Entries => match Search::entries(version, hand, seat) {
                 Begun::Is(found) => {
                     listed(inode, seat, found, notes, heard);
                     true
                 }
                 Begun::Runs(search) => {
-                    *self = TakePart::Listing(seat, search);
+                    *self = TakePart::Listing(version, seat, search);
                     false
                 }
             },

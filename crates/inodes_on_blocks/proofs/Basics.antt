@@ -5,7 +5,7 @@ pub use Rattle.inodes_on_blocks.proofs.Answering.{Answered, s-answered}
 pub use Rattle.inodes_on_blocks.proofs.BitmapPuts.{bitmaps_put_bits, marks_are_bits}
 pub use Rattle.inodes_on_blocks.proofs.BlocksRoom.{HasBlocks, block_room, blocks_end, blocks_start, cost_both, cost_more, extra, extra_missing, extra_there, named_room, number_again, number_before, number_more, number_new, number_stays, one_of}
 pub use Rattle.inodes_on_blocks.proofs.Committing.{LeavesSeen, commit_none, commit_other, is_member, nobody_commits, with_log, written_same, written_shows, written_to}
-pub use Rattle.inodes_on_blocks.proofs.ContentBlocks.{block_data, block_seen, data_place, direct_number}
+pub use Rattle.inodes_on_blocks.proofs.ContentBlocks.{block_data, block_seen, data_place, direct_number, seen_sizes}
 pub use Rattle.inodes_on_blocks.proofs.ContentStays.{block_stays, content_stays, holds_now, same_inode, same_numbers, used_now}
 pub use Rattle.inodes_on_blocks.proofs.Desks.{first_place, lenders_set, named_is, own_desk, part_same, taken_same}
 pub use Rattle.inodes_on_blocks.proofs.Fetching.{IsQuiet, buffer_seen, buffer_then, but_same, but_then, held_then, quiet_but, quiet_others, quiet_shows, s-back, s-fetch, with_buffers}

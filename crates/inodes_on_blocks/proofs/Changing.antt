@@ -105,7 +105,7 @@ changing_then h n c o d x v w g u shows shows_then left kept is =
     let mine = stays_with h n v w g u shows shows_then left stays in
     let becomes = untouched_change (disk_of (log_of v)) (disk_of (log_of w)) (owner_with h n v) (owner_with h n w) n d x mine is.laid in
     record {
-      others = λ i ne e. let before = left.no_more i e in hand_then h i (c i) v w g u (left.inodes i before) kept is.lent (is.others i ne before);
+      others = λ i ne e. let before = left.no_more i e in hand_then h i (c i) v w g u left.sizes (left.inodes i before) kept is.lent (is.others i ne before);
       lock = stays.lock;
       keeps = (kept_disk h n g u kept is.lent is.keeps).0;
       was = (kept_disk h n g u kept is.lent is.keeps).1 ∙ is.was;
@@ -141,7 +141,7 @@ module _ (h n b : ℕ) (bytes : List ℕ) (r : World) (g : above.World) (shows :
       let left = leaves.inodes i there.0 bound ne in
       record {
         keeps = was.keeps;
-        loaded_is = subst (λ (f : Dinode). IsLoaded (c i) (g.disk i) f) (sym left.inode) was.loaded_is;
+        loaded_is = subst (λ (f : Dinode). IsLoaded (log_of r).sizes.version (c i) (g.disk i) f) (sym left.inode) was.loaded_is;
         holds = untouched (disk_of (log_of r)) (disk_of (log_of then_)) r.owner then_.owner i (g.disk i) left was.holds;
         opened = was.opened;
       }

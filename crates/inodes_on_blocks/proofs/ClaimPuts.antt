@@ -1,5 +1,5 @@
 -- An inode claimed, and its record put with a type: what is shown of both.
-use Rattle.inodes_on_blocks.proofs.Vocabulary.{◌≡◌, ◌≢◌, inl, inr, ℕ, ◌+◌, ◌<◌, ◌≤◌, Bool, true, false, ◌&&◌, ◌==◌, List, length, Option, Some, None, refl, sym, ◌∙◌, ap, subst, arith, if◌then◌else◌, zero, suc, replicate, ◌^◌, w16, FitsSigned, AllByRecursion, IsSome, none-some, same_Some, Dinode, Super, IsDinode, sizes_of, Node, put, hart_count, same_or, eq_not, put_same, put_other, is_free, is_number, HoldsAt, IsRecord, IsInodePut, IsRunning, is_held_by, holder_of, kept, has, HasRoom, IsHome, Put, IsGoodSeen, Owners, TablesState, lock_holder, LogPart, put_block, Own, seen_of, new_record, inode_block, with_dinode, InodeType, OfDirectory, OfFile, OfDevice, is_nothing, blank, claimed, counted_up, is_hart, if_kept, Inv, Idle, one_refs, opens_slots, loaded, kind_of, is_joined, AreOnBlocks, World, log_of, tables_of, disk_of, inode_in, owners_of, untyped, owners_after, Shows, IsNew, if_joined, ghost_of, on_blocks, unless_new, Same, Kept, Carry, IsLoaded, commit_in, Base, IsMade, CanPut, PutLeaves, IsIndexOf, addresses, block_len}
+use Rattle.inodes_on_blocks.proofs.Vocabulary.{◌≡◌, ◌≢◌, inl, inr, ℕ, ◌+◌, ◌<◌, ◌≤◌, Bool, true, false, ◌&&◌, ◌==◌, List, length, Option, Some, None, refl, sym, ◌∙◌, ap, subst, arith, if◌then◌else◌, zero, suc, replicate, ◌^◌, w16, FitsSigned, AllByRecursion, IsSome, none-some, same_Some, Dinode, Super, IsDinode, sizes_of, Node, put, hart_count, same_or, eq_not, put_same, put_other, is_free, is_number, HoldsAt, IsRecord, IsInodePut, IsRunning, is_held_by, holder_of, kept, has, HasRoom, IsHome, Put, IsGoodSeen, Owners, TablesState, lock_holder, LogPart, put_block, Own, seen_of, new_record, inode_block, with_dinode, InodeType, OfDirectory, OfFile, OfDevice, is_nothing, blank, claimed, counted_up, is_hart, if_kept, Inv, Idle, one_refs, opens_slots, loaded, kind_of, is_joined, AreOnBlocks, World, log_of, tables_of, disk_of, inode_in, owners_of, untyped, owners_after, Shows, IsNew, if_joined, ghost_of, on_blocks, unless_new, Same, Kept, Carry, IsLoaded, commit_in, Base, IsMade, CanPut, PutLeaves, IsIndexOf, addresses, block_len, version_in}
 use Rattle.inodes_on_blocks.proofs.Basics.{untouched, inode_is, good_seen, is_member, nobody_commits, commit_none, put_grows, same_view, AllInHand, hands_marked, hart_is, held_back, in_hand_then, is_here, kept_disk, tables_left, SameCode, new_holds, new_kept, old_node, unkept_old, open_alike, open_then, lock_range, load_range, whole_put, own_put, seen_then, good_then, bytes_then, members_joined, put_hand, record_put, quiet_leaves, quiet_owners, inode_home, untaken, stored_long, stored_bytes, with_tables, unlocked_holds}
 use Rattle.buffer_cache.specs.Lists.{count_of}
 use Rattle.inode_machine.specs.World as above
@@ -36,9 +36,9 @@ module _ (h : ℕ) (lt : h < hart_count) (inode_type : InodeType) (v : World) (g
   empty : g.disk n ≡ None
   empty = at (g.disk n) (unlocked_holds h lt v g shows n unlocked unclaimed low (subst (λ (k : ℕ). n < k) (sym shows.size) bound)).inode
     where
-      at : (o : Option Node) → IsRecord (inode_in (log_of v) n) o → o ≡ None
+      at : (o : Option Node) → IsRecord (version_in (disk_of (log_of v))) (inode_in (log_of v) n) o → o ≡ None
       at None r = refl
-      at (Some x) r = absurd (let z : false ≡ true = sym (in_use (inode_in (log_of v) n) x r) ∙ free in cc z)
+      at (Some x) r = absurd (let z : false ≡ true = sym (in_use (version_in (disk_of (log_of v))) (inode_in (log_of v) n) x r) ∙ free in cc z)
 
   pub free_above : above_exec.is_free g n ≡ true
   free_above = λ z. is_nothing (empty z) && (zero z == 0)
@@ -99,7 +99,7 @@ module _ (h : ℕ) (lt : h < hart_count) (inode_type : InodeType) (v : World) (g
         ];
         indexed = λ i d e. elim (same_or i n) [
           | inl q ↦ absurd (none-some d (sym (ap (loaded (tables_of v)) q ∙ shows.loads.typed n empty) ∙ after.places.loads i ∙ e))
-          | inr ne ↦ subst (IsIndexOf d.index) (sym (put_other g.disk n node i ne)) (shows.loads.indexed i d (after.places.loads i ∙ e))
+          | inr ne ↦ subst (IsIndexOf (log_of v).sizes.version d.index) (sym (put_other g.disk n node i ne)) (shows.loads.indexed i d (after.places.loads i ∙ e))
         ];
       };
       offsets = shows.offsets;
@@ -134,7 +134,7 @@ module _ (h : ℕ) (lt : h < hart_count) (inode_type : InodeType) (v : World) (g
         let was = all i (sym (shows.tables.places.holders i) ∙ mine) in
         record {
           keeps = put_other g.keeper n (Some h) i ne ∙ was.keeps;
-          loaded_is = subst (λ (o : Option Node). IsLoaded (c i) o (inode_in (log_of v) i)) (sym (put_other g.disk n node i ne)) was.loaded_is;
+          loaded_is = subst (λ (o : Option Node). IsLoaded (log_of v).sizes.version (c i) o (inode_in (log_of v) i)) (sym (put_other g.disk n node i ne)) was.loaded_is;
           holds = subst (λ (o : Option Node). HoldsAt (disk_of (log_of v)) v.owner i o) (sym (put_other g.disk n node i ne)) was.holds;
           opened = open_then h i (c i) g (claimed h inode_type g n) (open_alike h i g (claimed h inode_type g n) refl refl) was.opened;
         }
@@ -176,7 +176,7 @@ claimed_then h n inode_type c v w g u same kept is =
       taken = untaken h v w same.taken is.taken;
       keeps = now.0;
       node = now.1 ∙ is.node;
-      hands = in_hand_then h c v w g u same.inodes same.no_more kept lent is.hands;
+      hands = in_hand_then h c v w g u same.sizes same.inodes same.no_more kept lent is.hands;
       free = ap (λ (o : rules.Own). o.desk.lender) (kept.same is.free) ∙ is.free;
     }
   where
@@ -398,7 +398,7 @@ module _ (h : ℕ) (n : ℕ) (inode_type : InodeType) (c : Carry) (r : World) (g
           let left = leaves.inodes i at.0 (within i at.1) (λ q. none-some h (sym is.unlocked ∙ ap g.lock (sym q) ∙ mine)) in
           record {
             keeps = had.keeps;
-            loaded_is = subst (λ (f : Dinode). IsLoaded (c i) (g.disk i) f) (sym left.inode) had.loaded_is;
+            loaded_is = subst (λ (f : Dinode). IsLoaded l.sizes.version (c i) (g.disk i) f) (sym left.inode) had.loaded_is;
             holds = untouched (disk_of l) (disk_of now) r.owner r.owner i (g.disk i) left had.holds;
             opened = had.opened;
           };

@@ -2,7 +2,7 @@
 -- inode's record.
 use Rattle.inodes_on_blocks.proofs.Vocabulary.{◌≡◌, ◌≢◌, inl, inr, ℕ, zero, suc, ℤ, pos, negsuc, ◌+◌, ◌*◌, ◌/◌, ◌<◌, ◌≤◌, ◌||◌, ◌&&◌, Bool, true, false, List, Option, Some, None, is_some, refl, sym, ◌∙◌, ap, subst, arith, if◌then◌else◌, [], IsSome, nat_lt, is_none, nat_tests, Super, dinode_at, IsOutsideLog, SeatState, kept, given_back, holder_of, has, HasRoom, is_free, is_number, hart_count, and_true, put_same, put_other, Do, unmarked, ExecResult, Ran, Machine, Laws, P, Wp, Both, joined, Below, Handover, Lasts, Here, Silent, ToAct, to_act, acted, s-silent, Wp-more, TablesState, references_in, up_inode, first_free, is_unreferenced, Outside, Passes, seen_of, keeps_whole, leaves_own, shows_its_puts, free_in, inode_blocks, new_record, inode_block, with_dinode, Spent, size, most_recorded, InodeType, Claim, claimed, counted_up, has_place, place_count, referenced, blank, marked, with_mark, Idle, Inv, more, loaded, kind_of, World, log_of, tables_of, inode_in, came_to, exec, alone, Answers, IsDone, in_hand, HasBuffer, SameBut, Carry, IsThrough, Keeps, Kept, Labels, Same, Stands, below, labelled, IsMade, answers, claim, claim_at, claim_from, claim_in, claim_mark, HasInodes, Owners, GivesRoom, HasSpent, Shows, ActsWithin, DoesItWithin, inodes_per_block}
 use Rattle.std.specs.Prelude.{Contains}
-use Rattle.inode_machine.specs.VersionOne as one
+use Rattle.inode_machine.specs.Rules as rules
 use Rattle.fs_machine.specs.Tables as places
 use Rattle.fs_machine.specs.Premises as premises
 use Rattle.fs_machine.specs.Steps as steps
@@ -65,19 +65,19 @@ unfolding claim_steps
 steps_are zero = refl
 steps_are (suc n) = let more_ = steps_are n in omega (arith, more_)
 
-module _ (sizes : Super) (l : Labels) (laws : Laws (labelled l)) (keeps : Keeps l) (h : ℕ) (lt : h < hart_count) (inode_type : InodeType) (made : IsMade inode_type) (m : above.ClaimResult → Option above.Mark) (c : Carry) (s : Spent) (few : size s < most_recorded)
-    (B : List l.Step → Type 0) (C : above.ClaimResult → List l.Step → above.World → Type 0) (lasts : Lasts (labelled l) h B C) where
+module _ (sizes : Super) (l : Labels) (laws : Laws (labelled sizes.version l)) (keeps : Keeps l) (h : ℕ) (lt : h < hart_count) (inode_type : InodeType) (made : IsMade inode_type) (m : above.ClaimResult → Option above.Mark) (c : Carry) (s : Spent) (few : size s < most_recorded)
+    (B : List l.Step → Type 0) (C : above.ClaimResult → List l.Step → above.World → Type 0) (lasts : Lasts (labelled sizes.version l) h B C) where
   abbrev W : Type 0
   W = Both World above.World
 
   abbrev M : Machine
-  M = joined (labelled l) (below sizes)
+  M = joined (labelled sizes.version l) (below sizes)
 
   abbrev Q : Handover above.ClaimResult Carry → List l.Step → W → Type 0
-  Q = Below (labelled l) (below sizes) h C
+  Q = Below (labelled sizes.version l) (below sizes) h C
 
   abbrev Todo : List l.Step → above.World → Type 0
-  Todo = ToAct (labelled l) (below sizes) laws (below_laws sizes l keeps) h B (Claim inode_type) m C lasts
+  Todo = ToAct (labelled sizes.version l) (below sizes) laws (below_laws sizes l keeps) h B (Claim inode_type) m C lasts
 
   abbrev kind : ℤ
   kind = kind_of inode_type
@@ -97,7 +97,7 @@ module _ (sizes : Super) (l : Labels) (laws : Laws (labelled l)) (keeps : Keeps 
   looks_left v w g u left kept_ knows is = record {
     taken = untaken h v w left.taken is.taken;
     through = through_then h v w left.begun is.through;
-    hands = in_hand_then h c v w g u left.inodes left.no_more kept_ is.lent is.hands;
+    hands = in_hand_then h c v w g u left.sizes left.inodes left.no_more kept_ is.lent is.hands;
     lent = lent_then h g u kept_ is.lent;
     knows = knows;
   }
@@ -119,7 +119,7 @@ module _ (sizes : Super) (l : Labels) (laws : Laws (labelled l)) (keeps : Keeps 
 
   -- ---- a block in hand, at u
 
-  module _ (q : ℕ) (bytes : List ℕ) (u : W) (gs : List l.Step) (todo : Todo gs u.seen) (shows : Shows u.real u.seen) (inv : Inv u.seen) (may : one.May h (Claim inode_type) u.seen) (looks : Looks u.real u.seen)
+  module _ (q : ℕ) (bytes : List ℕ) (u : W) (gs : List l.Step) (todo : Todo gs u.seen) (shows : Shows u.real u.seen) (inv : Inv u.seen) (may : rules.May sizes.version h (Claim inode_type) u.seen) (looks : Looks u.real u.seen)
       (buffer : HasBuffer h (sizes.inodestart + q) bytes u.real) (one : in_hand h u.real ≡ 1) (out : IsOutsideLog (log_of u.real).sizes (sizes.inodestart + q)) where
     abbrev b : ℕ
     b = sizes.inodestart + q
@@ -134,7 +134,7 @@ module _ (sizes : Super) (l : Labels) (laws : Laws (labelled l)) (keeps : Keeps 
     candidates = free_in sizes.ninodes q bytes
 
     abbrev Came : (n : ℕ) → P M (Handover above.ClaimResult Carry) → steps.ClaimResult → World → Type 0
-    Came n rest a z = Answered (labelled l) (below sizes) laws (below_laws sizes l keeps) h B (Claim inode_type) m C lasts u z gs (claim_mark inode_type m n a) (λ fs y f. Wp M h B Q (claim_in rest kind b bytes c a) (claim_steps n) fs (record { real = y; seen = f }))
+    Came n rest a z = Answered (labelled sizes.version l) (below sizes) laws (below_laws sizes l keeps) h B (Claim inode_type) m C lasts u z gs (claim_mark inode_type m n a) (λ fs y f. Wp M h B Q (claim_in rest kind b bytes c a) (claim_steps n) fs (record { real = y; seen = f }))
 
     lower_may : premises.May h (steps.Claim b candidates) r.state
     unfolding premises.May
@@ -163,17 +163,17 @@ module _ (sizes : Super) (l : Labels) (laws : Laws (labelled l)) (keeps : Keeps 
     no_inode : (n : ℕ) → Again n (q + 1) → Came n (claim_from n sizes inode_type c m (q + 1)) steps.NoInode (with_buffers r ss)
     unfolding claim_from
     no_inode zero again =
-        let s_ = marked_same h (m above.NoInode) g in
+        let s_ = marked_same sizes.version h (m above.NoInode) g in
         inr (
           above.Room,
           above.NoInode,
-          marked h (m above.NoInode) g,
+          marked sizes.version h (m above.NoInode) g,
           refl,
           refl,
           tt,
-          (λ i. shows_marked (with_buffers r ss) g (marked h (m above.NoInode) g) s_ (quiet_shows h r g shows ss quiet)),
+          (λ i. shows_marked (with_buffers r ss) g (marked sizes.version h (m above.NoInode) g) s_ (quiet_shows h r g shows ss quiet)),
           quiet_others h r g shows ss quiet,
-          λ fs i done. (done, (base_marked h (with_buffers r ss) g (marked h (m above.NoInode) g) c s_ may.0 (ends (with_buffers r ss) g none_then looks_then).0, looks.knows.0)),
+          λ fs i done. (done, (base_marked h (with_buffers r ss) g (marked sizes.version h (m above.NoInode) g) c s_ may.0 (ends (with_buffers r ss) g none_then looks_then).0, looks.knows.0)),
         )
     no_inode (suc n) again = inl (refl, quiet_shows h r g shows ss quiet, quiet_others h r g shows ss quiet, again (record { real = with_buffers r ss; seen = g }) gs todo looks_then none_then)
 
@@ -183,8 +183,8 @@ module _ (sizes : Super) (l : Labels) (laws : Laws (labelled l)) (keeps : Keeps 
 
     gives_back : (n : ℕ) (rest : P M (Handover above.ClaimResult Carry)) → nat_lt (referenced g) place_count ≡ false → Came n rest steps.NoPlace r
     gives_back n rest full =
-        let s_ = marked_same h (m above.NoPlace) g in
-        let g' = marked h (m above.NoPlace) g in
+        let s_ = marked_same sizes.version h (m above.NoPlace) g in
+        let g' = marked sizes.version h (m above.NoPlace) g in
         let base : Looks r g' = record { taken = looks.taken; through = looks.through; hands = hands_marked h r g g' c s_ looks.hands; lent = λ some. absurd (some ((s_.desks h).lender ∙ may.0)); knows = looks.knows } in
         inr (
           above.RoomFor 0,
@@ -197,7 +197,7 @@ module _ (sizes : Super) (l : Labels) (laws : Laws (labelled l)) (keeps : Keeps 
           (λ other ne. (below_laws sizes l keeps).same other r),
           λ fs i done.
               Wp-more M h (Do (steps.Put b None) unmarked (λ _. answers above.NoPlace c)) B Q 1 (claim_steps n) fs (record { real = r; seen = g' }) (some_steps n)
-              (s-back sizes l laws keeps h lt B Q (C above.NoPlace) (acted (labelled l) (below sizes) laws (below_laws sizes l keeps) h B (Claim inode_type) m C lasts above.NoPlace) b (λ _. answers above.NoPlace c) 0 fs (record { real = r; seen = g' }) done buffer.holder out
+              (s-back sizes l laws keeps h lt B Q (C above.NoPlace) (acted (labelled sizes.version l) (below sizes) laws (below_laws sizes l keeps) h B (Claim inode_type) m C lasts above.NoPlace) b (λ _. answers above.NoPlace c) 0 fs (record { real = r; seen = g' }) done buffer.holder out
               (λ v es back. (back.stage, ends v.real v.seen (let down = back.count in omega (arith, down, one)) (looks_but b r v.real g' v.seen back.since back.kept base)))),
         )
 
@@ -223,11 +223,11 @@ module _ (sizes : Super) (l : Labels) (laws : Laws (labelled l)) (keeps : Keeps 
         then_ = claimed_below h lt inode_type r g shows inv i is.low bound free zero_refs may.1 t after
 
         abbrev g' : above.World
-        g' = marked h (m (above.New i)) (claimed h inode_type g i)
+        g' = marked sizes.version h (m (above.New i)) (claimed h inode_type g i)
 
         has_claimed : HasClaimed h i inode_type c then_ g'
         has_claimed =
-            claimed_marked h i inode_type c then_ (claimed h inode_type g i) g' (marked_same h (m (above.New i)) (claimed h inode_type g i))
+            claimed_marked h i inode_type c then_ (claimed h inode_type g i) g' (marked_same sizes.version h (m (above.New i)) (claimed h inode_type g i))
             (record {
               new = put_same r.new i (Some h);
               only = λ k ne e. looks.through.new k (sym (put_other r.new i (Some h) k ne) ∙ e);
@@ -240,10 +240,10 @@ module _ (sizes : Super) (l : Labels) (laws : Laws (labelled l)) (keeps : Keeps 
             })
 
         -- its record is put
-        puts : (z : W) (es fs : List l.Step) → Here (labelled l) (below sizes) laws (below_laws sizes l keeps) h B (C (above.New i)) (record { real = then_; seen = g' }) z fs
+        puts : (z : W) (es fs : List l.Step) → Here (labelled sizes.version l) (below sizes) laws (below_laws sizes l keeps) h B (C (above.New i)) (record { real = then_; seen = g' }) z fs
             → premises.May h (steps.Put b (Some (with_dinode i (new_record kind) bytes))) z.real.state
             × ((x : Outside) → premises.Honest h (steps.Put b (Some (with_dinode i (new_record kind) bytes))) z.real.state x
-            → Silent (labelled l) (below sizes) laws (below_laws sizes l keeps) h B z (premises.MayWait h (steps.Put b (Some (with_dinode i (new_record kind) bytes))) z.real.state)
+            → Silent (labelled sizes.version l) (below sizes) laws (below_laws sizes l keeps) h B z (premises.MayWait h (steps.Put b (Some (with_dinode i (new_record kind) bytes))) z.real.state)
             (exec h x (steps.Put b (Some (with_dinode i (new_record kind) bytes))) z.real) (λ a y. Wp M h B Q (answers (above.New i) c) 0 fs (record { real = y; seen = z.seen })))
         unfolding steps.exec premises.MayWait premises.Honest
         puts z es fs here =
@@ -263,11 +263,11 @@ module _ (sizes : Super) (l : Labels) (laws : Laws (labelled l)) (keeps : Keeps 
             subst
             (λ (p : ℕ × List ℕ). premises.May h (steps.Put p.0 (Some (with_dinode i (new_record kind) p.1))) v.state
             × ((x : Outside) → Unit {0}
-            → Silent (labelled l) (below sizes) laws (below_laws sizes l keeps) h B z ⊥ (exec h x (steps.Put p.0 (Some (with_dinode i (new_record kind) p.1))) v) (λ a y. Wp M h B Q (answers (above.New i) c) 0 fs (record { real = y; seen = z.seen }))))
+            → Silent (labelled sizes.version l) (below sizes) laws (below_laws sizes l keeps) h B z ⊥ (exec h x (steps.Put p.0 (Some (with_dinode i (new_record kind) p.1))) v) (λ a y. Wp M h B Q (answers (above.New i) c) 0 fs (record { real = y; seen = z.seen }))))
             (λ y. (sym there y, same_bytes y)) (
               may_put h at stored_ v.state here.shows.whole here.shows.blocks.seen can,
               λ x t_.
-                  subst (λ (o : Owners). Silent (labelled l) (below sizes) laws (below_laws sizes l keeps) h B z ⊥ (Ran (tt {0}) (put_with h i inode_type c v z.seen here.shows claims can o)) (λ a y. Wp M h B Q (answers (above.New i) c) 0 fs (record { real = y; seen = z.seen })))
+                  subst (λ (o : Owners). Silent (labelled sizes.version l) (below sizes) laws (below_laws sizes l keeps) h B z ⊥ (Ran (tt {0}) (put_with h i inode_type c v z.seen here.shows claims can o)) (λ a y. Wp M h B Q (answers (above.New i) c) 0 fs (record { real = y; seen = z.seen })))
                   (sym (put_owners h i inode_type c v z.seen here.shows claims can))
                   (put_shows h i inode_type c v z.seen here.shows claims can made, put_same_others h i inode_type c v z.seen here.shows claims can, (here.stage, (put_base h i inode_type c v z.seen here.shows claims can one_v, size))),
             )
@@ -280,14 +280,14 @@ module _ (sizes : Super) (l : Labels) (laws : Laws (labelled l)) (keeps : Keeps 
               above.New i,
               g',
               refl,
-              ap (λ (e : Bool). with_mark h m (if e then Ran (above.New i) (claimed h inode_type g i) else Ran above.NoPlace g)) room,
+              ap (λ (e : Bool). with_mark sizes.version h m (if e then Ran (above.New i) (claimed h inode_type g i) else Ran above.NoPlace g)) room,
               (is.low, subst (λ (k : ℕ). i < k) (sym shows.size) bound, free_above h lt inode_type r g shows inv i is.low bound free zero_refs),
-              (λ j. shows_marked then_ (claimed h inode_type g i) g' (marked_same h (m (above.New i)) (claimed h inode_type g i)) (claimed_shows h lt inode_type r g shows inv i is.low bound free zero_refs may.1 t after)),
+              (λ j. shows_marked then_ (claimed h inode_type g i) g' (marked_same sizes.version h (m (above.New i)) (claimed h inode_type g i)) (claimed_shows h lt inode_type r g shows inv i is.low bound free zero_refs may.1 t after)),
               claimed_same h lt inode_type r g shows inv i is.low bound free zero_refs may.1 t after,
               λ fs j done.
                   Wp-more M h (Do (steps.Put b (Some (with_dinode i (new_record kind) bytes))) unmarked (λ _. answers (above.New i) c)) B Q 1 (claim_steps n) fs (record { real = then_; seen = g' }) (some_steps n)
-                  (s-silent (labelled l) (below sizes) laws (below_laws sizes l keeps) h B (steps.Put b (Some (with_dinode i (new_record kind) bytes))) (λ _. answers (above.New i) c) Q (C (above.New i)) 0 fs (record { real = then_; seen = g' })
-                  (acted (labelled l) (below sizes) laws (below_laws sizes l keeps) h B (Claim inode_type) m C lasts (above.New i)) done (λ z es here. puts z fs es here)),
+                  (s-silent (labelled sizes.version l) (below sizes) laws (below_laws sizes l keeps) h B (steps.Put b (Some (with_dinode i (new_record kind) bytes))) (λ _. answers (above.New i) c) Q (C (above.New i)) 0 fs (record { real = then_; seen = g' })
+                  (acted (labelled sizes.version l) (below sizes) laws (below_laws sizes l keeps) h B (Claim inode_type) m C lasts (above.New i)) done (λ z es here. puts z fs es here)),
             )
 
     -- what the step does
@@ -331,11 +331,11 @@ module _ (sizes : Super) (l : Labels) (laws : Laws (labelled l)) (keeps : Keeps 
     one_block : Wp M h B Q (claim_from (suc n) sizes inode_type c m q) (claim_steps (suc n)) es w
     unfolding claim_from claim_steps
     one_block =
-        s-fetch sizes l laws keeps h lt B Q Todo (to_act (labelled l) (below sizes) laws (below_laws sizes l keeps) h B (Claim inode_type) m C lasts) at (claim_at (claim_from n sizes inode_type c m (q + 1)) sizes inode_type c m n q at) (suc (claim_steps n)) es w todo (omega (arith, none))
+        s-fetch sizes l laws keeps h lt B Q Todo (to_act (labelled sizes.version l) (below sizes) laws (below_laws sizes l keeps) h B (Claim inode_type) m C lasts) at (claim_at (claim_from n sizes inode_type c m (q + 1)) sizes inode_type c m n q at) (suc (claim_steps n)) es w todo (omega (arith, none))
         (λ v fs here. place v.real v.seen here.shows (here.same.sizes ∙ looks.knows.0)) (empty_hand h at w.real none)
         (λ v fs got.
         let looks_v = looks_but at w.real v.real w.seen v.seen got.since got.kept looks in
-        s-answered (labelled l) (below sizes) laws (below_laws sizes l keeps) h B (Claim inode_type) m C lasts (steps.Claim at (free_in sizes.ninodes q (seen_of (log_of v.real) at))) (claim_mark inode_type m n) (claim_in (claim_from n sizes inode_type c m (q + 1)) kind at (seen_of (log_of v.real) at) c) Q (claim_steps n) fs v got.stage
+        s-answered (labelled sizes.version l) (below sizes) laws (below_laws sizes l keeps) h B (Claim inode_type) m C lasts (steps.Claim at (free_in sizes.ninodes q (seen_of (log_of v.real) at))) (claim_mark inode_type m n) (claim_in (claim_from n sizes inode_type c m (q + 1)) kind at (seen_of (log_of v.real) at) c) Q (claim_steps n) fs v got.stage
         (λ u gs here may.
         let looks_u = looks_same v.real u.real v.seen u.seen here.same here.kept looks_v in
         let buffer = buffer_then h at (seen_of (log_of v.real) at) v.real u.real (here.same.buffers at) got.buffer in
@@ -362,11 +362,11 @@ module _ (sizes : Super) (l : Labels) (laws : Laws (labelled l)) (keeps : Keeps 
           Wp-more M h (claim_from (suc n) sizes inode_type c m 0) B Q (claim_steps (suc n)) (suc (more (Claim inode_type))) es w (omega (arith, fewer, e, most)) (all_blocks n 0 es w (omega (arith, e)) todo looks stands.0.free)
 
 -- and within what the operation spends
-pub claim_within : (sizes : Super) (l : Labels) → Laws (labelled l) → Keeps l → (h : ℕ) → h < hart_count → (inode_type : InodeType) → IsMade inode_type → HasInodes sizes → (m : above.ClaimResult → Option above.Mark) → ActsWithin sizes l h (Claim inode_type) m (claim sizes inode_type)
+pub claim_within : (sizes : Super) (l : Labels) → Laws (labelled sizes.version l) → Keeps l → (h : ℕ) → h < hart_count → (inode_type : InodeType) → IsMade inode_type → HasInodes sizes → (m : above.ClaimResult → Option above.Mark) → ActsWithin sizes l h (Claim inode_type) m (claim sizes inode_type)
 claim_within sizes l laws keeps h lt inode_type made inodes m c s B C es w lasts todo stands few has_ =
     stays_within sizes l h (Claim inode_type) m (claim sizes inode_type) ((programs_spend sizes).claim inode_type) c s B C (suc (more (Claim inode_type))) es w
     (claim_acts sizes l laws keeps h lt inode_type made m c s (omega (arith, few)) B C lasts inodes.some inodes.few es w todo stands has_) has_
 
 pub claims_within : (sizes : Super) (inode_type : InodeType) → IsMade inode_type → HasInodes sizes → DoesItWithin sizes (Claim inode_type) (claim sizes inode_type)
 claims_within sizes inode_type made inodes h s m c w lt few todo stands known =
-    claim_within sizes alone alone_laws alone_keeps h lt inode_type made inodes m c s (IsDone (Claim inode_type)) (Answers (Claim inode_type)) [] w (lasts_done (Claim inode_type) h) todo stands few (stands.1, known)
+    claim_within sizes alone (alone_laws sizes.version) alone_keeps h lt inode_type made inodes m c s (IsDone (Claim inode_type)) (Answers (Claim inode_type)) [] w (lasts_done sizes.version (Claim inode_type) h) todo stands few (stands.1, known)

@@ -30,6 +30,10 @@ direct_number disk i k lt =
     ap (λ (b : Bool). slice_index ((inode_of disk i).addrs ++ indirect_numbers disk (inode_of disk i)) (if b then k else k + 1)) (front k lt)
     ∙ get_or_append_left (inode_of disk i).addrs (indirect_numbers disk (inode_of disk i)) 0 k (omega (arith, lt, thirteen))
 
+-- the seen disk has the sizes that the log has
+pub seen_sizes : (r : World) (g : above.World) → Shows r g → sizes_of (disk_of (log_of r)) ≡ (log_of r).sizes
+seen_sizes r g shows = (good_seen (log_of r).sizes (seen_in (log_of r).contents (log_of r).seats) (length (log_of r).contents) shows.blocks.seen).sizes_are
+
 module _ (v : World) (g : above.World) (shows : Shows v g) where
   abbrev disk : List (List ℕ)
   disk = disk_of (log_of v)
@@ -37,7 +41,7 @@ module _ (v : World) (g : above.World) (shows : Shows v g) where
   -- a data block is outside the log
   pub data_place : (b : ℕ) → IsData (sizes_of disk) b → IsOutsideLog (log_of v).sizes b × (b < (log_of v).sizes.size)
   data_place b is =
-      let at : IsData (log_of v).sizes b = subst (λ (s : Super). IsData s b) (good_seen (log_of v).sizes (seen_in (log_of v).contents (log_of v).seats) (length (log_of v).contents) shows.blocks.seen).sizes_are is in
+      let at : IsData (log_of v).sizes b = subst (λ (s : Super). IsData s b) (seen_sizes v g shows) is in
       let s = shows.blocks.seen.good in
       let log = s.log in
       let inodes = s.inodes in

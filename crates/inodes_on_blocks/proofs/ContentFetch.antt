@@ -20,14 +20,14 @@ either_place k X near far = by (nat_lt k direct) refl
     by true e = near (grind (arith, nat_tests, e)) e
     by false e = far (grind (arith, nat_tests, e)) e
 
-module _ (sizes : Super) (l : Labels) (laws : Laws (labelled l)) (keeps : Keeps l) (h : ℕ) (lt : h < hart_count) (B : List l.Step → Type 0) where
+module _ (sizes : Super) (l : Labels) (laws : Laws (labelled sizes.version l)) (keeps : Keeps l) (h : ℕ) (lt : h < hart_count) (B : List l.Step → Type 0) where
   abbrev W : Type 0
   W = Both World above.World
 
   abbrev M : Machine
-  M = joined (labelled l) (below sizes)
+  M = joined (labelled sizes.version l) (below sizes)
 
-  module _ {A : Type 0} (Q : A → List l.Step → W → Type 0) (G : List l.Step → above.World → Type 0) (stable : Stable (labelled l) (below sizes) laws (below_laws sizes l keeps) h B G)
+  module _ {A : Type 0} (Q : A → List l.Step → W → Type 0) (G : List l.Step → above.World → Type 0) (stable : Stable (labelled sizes.version l) (below sizes) laws (below_laws sizes l keeps) h B G)
       (i k : ℕ) (o : Option Node) (f : BlockInHand → P M A) (n : ℕ) (w : W) (holds : HoldsAt (disk_of (log_of w.real)) w.real.owner i o) (used : is_free (inode_in (log_of w.real) i) ≡ false)
       (mine : lock_holder i (tables_of w.real) ≡ Some h) (within : block_len * k < (inode_in (log_of w.real) i).size) (none : in_hand h w.real ≡ 0) where
     abbrev d : Dinode
@@ -97,15 +97,15 @@ module _ (sizes : Super) (l : Labels) (laws : Laws (labelled l)) (keeps : Keeps 
         (fetches rest w es stage (record { same = (below_laws sizes l keeps).same h w.real; kept = kept_same h w.seen }) (slice_index d.addrs k) (sym (direct_number (disk_of (log_of w.real)) i k near)))))
         (λ far e. subst (λ (t : Bool). Wp M h B Q (bind (fetch_at d (if t then Direct k else InTable (k - direct))) f) (suc (suc (suc (suc (suc n))))) es w) (sym e) (through rest es stage far))
 
-module _ (sizes : Super) (l : Labels) (laws : Laws (labelled l)) (keeps : Keeps l) (h : ℕ) (lt : h < hart_count) (B : List l.Step → Type 0) {A : Type 0} (Q : A → List l.Step → Both World above.World → Type 0) (G : List l.Step → above.World → Type 0)
-    (stable : Stable (labelled l) (below sizes) laws (below_laws sizes l keeps) h B G) (i k : ℕ) (o : Option Node) (g : BlockInHand → P (joined (labelled l) (below sizes)) A) (n : ℕ) (w : Both World above.World)
+module _ (sizes : Super) (l : Labels) (laws : Laws (labelled sizes.version l)) (keeps : Keeps l) (h : ℕ) (lt : h < hart_count) (B : List l.Step → Type 0) {A : Type 0} (Q : A → List l.Step → Both World above.World → Type 0) (G : List l.Step → above.World → Type 0)
+    (stable : Stable (labelled sizes.version l) (below sizes) laws (below_laws sizes l keeps) h B G) (i k : ℕ) (o : Option Node) (g : BlockInHand → P (joined (labelled sizes.version l) (below sizes)) A) (n : ℕ) (w : Both World above.World)
     (holds : HoldsAt (disk_of (log_of w.real)) w.real.owner i o) (used : is_free (inode_in (log_of w.real) i) ≡ false)
     (mine : lock_holder i (tables_of w.real) ≡ Some h) (within : block_len * k < (inode_in (log_of w.real) i).size) (none : in_hand h w.real ≡ 0) where
   -- A block of the content is taken, looked at, and given back as it was.
   pub s-touch : ((v : Both World above.World) (fs : List l.Step) → Touched h (G fs) w v
-      → Wp (joined (labelled l) (below sizes)) h B Q (g (record { number = block_number (numbers_of (disk_of (log_of w.real)) (inode_in (log_of w.real) i)) k; bytes = content_block (disk_of (log_of w.real)) (inode_in (log_of w.real) i) k })) n fs v)
+      → Wp (joined (labelled sizes.version l) (below sizes)) h B Q (g (record { number = block_number (numbers_of (disk_of (log_of w.real)) (inode_in (log_of w.real) i)) k; bytes = content_block (disk_of (log_of w.real)) (inode_in (log_of w.real) i) k })) n fs v)
       → (es : List l.Step) → G es w.seen
-      → Wp (joined (labelled l) (below sizes)) h B Q (bind (fetch_block (inode_in (log_of w.real) i) k) (λ x. Do (Put x.number None) unmarked (λ _. g x))) (suc (suc (suc (suc (suc (suc n)))))) es w
+      → Wp (joined (labelled sizes.version l) (below sizes)) h B Q (bind (fetch_block (inode_in (log_of w.real) i) k) (λ x. Do (Put x.number None) unmarked (λ _. g x))) (suc (suc (suc (suc (suc (suc n)))))) es w
   s-touch rest es stage =
       s-content sizes l laws keeps h lt B Q G stable i k o (λ x. Do (Put x.number None) unmarked (λ _. g x)) (suc n) w holds used mine within none
       (λ u gs got.

@@ -57,18 +57,18 @@ content_steps j = 3 * direct + (suc (suc (3 * numbers_per_block + suc (3 * 1 + j
 
 -- ---- the rules
 
-module _ (sizes : Super) (l : Labels) (laws : Laws (labelled l)) (keeps : Keeps l) (h : ℕ) (lt : h < hart_count) (B : List l.Step → Type 0) where
+module _ (sizes : Super) (l : Labels) (laws : Laws (labelled sizes.version l)) (keeps : Keeps l) (h : ℕ) (lt : h < hart_count) (B : List l.Step → Type 0) where
   abbrev W : Type 0
   W = Both World above.World
 
   abbrev M : Machine
-  M = joined (labelled l) (below sizes)
+  M = joined (labelled sizes.version l) (below sizes)
 
   -- what is seen on the disk has these sizes
   disk_sizes : (v : World) (g : above.World) → Shows v g → (log_of v).sizes ≡ sizes → sizes_of (disk_of (log_of v)) ≡ sizes
   disk_sizes v g shows at = (good_seen (log_of v).sizes (seen_of (log_of v)) (length (log_of v).contents) shows.blocks.seen).sizes_are ∙ at
 
-  module _ {A : Type 0} (Q : A → List l.Step → W → Type 0) (G : List l.Step → above.World → Type 0) (stable : Stable (labelled l) (below sizes) laws (below_laws sizes l keeps) h B G)
+  module _ {A : Type 0} (Q : A → List l.Step → W → Type 0) (G : List l.Step → above.World → Type 0) (stable : Stable (labelled sizes.version l) (below sizes) laws (below_laws sizes l keeps) h B G)
       (n : ℕ) (changing : (fs : List l.Step) (g : above.World) → G fs g → Inv g → IsChanging h n g) (Knows : World → Type 0) (room : KeepsRoom h sizes.bmapstart Knows Knows) where
     -- Without a buffer in hand, after `start`: these blocks of the inode are left.
     pub record Between (start : W) (rest : List ℕ) (fs : List l.Step) (w : W) : Type 0 where

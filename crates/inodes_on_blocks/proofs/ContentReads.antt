@@ -20,14 +20,14 @@ unfolding touches
 touches_are zero j = omega arith
 touches_are (suc n) j = let more = touches_are n j in omega (arith, more)
 
-module _ (sizes : Super) (l : Labels) (laws : Laws (labelled l)) (keeps : Keeps l) (h : ℕ) (lt : h < hart_count) (B : List l.Step → Type 0) {A : Type 0} (Q : A → List l.Step → Both World above.World → Type 0) (G : List l.Step → above.World → Type 0)
-    (stable : Stable (labelled l) (below sizes) laws (below_laws sizes l keeps) h B G) (i : ℕ) (o : Option Node) (k : FilledMemory → P (joined (labelled l) (below sizes)) A) (j : ℕ) (w : Both World above.World)
+module _ (sizes : Super) (l : Labels) (laws : Laws (labelled sizes.version l)) (keeps : Keeps l) (h : ℕ) (lt : h < hart_count) (B : List l.Step → Type 0) {A : Type 0} (Q : A → List l.Step → Both World above.World → Type 0) (G : List l.Step → above.World → Type 0)
+    (stable : Stable (labelled sizes.version l) (below sizes) laws (below_laws sizes l keeps) h B G) (i : ℕ) (o : Option Node) (k : FilledMemory → P (joined (labelled sizes.version l) (below sizes)) A) (j : ℕ) (w : Both World above.World)
     (holds : HoldsAt (disk_of (log_of w.real)) w.real.owner i o) (used : is_free (inode_in (log_of w.real) i) ≡ false) (mine : lock_holder i (tables_of w.real) ≡ Some h) (none : in_hand h w.real ≡ 0) where
   abbrev W : Type 0
   W = Both World above.World
 
   abbrev M : Machine
-  M = joined (labelled l) (below sizes)
+  M = joined (labelled sizes.version l) (below sizes)
 
   abbrev d : Dinode
   d = inode_in (log_of w.real) i

@@ -1,6 +1,5 @@
 -- The operations that count references act at their one step.
-use Rattle.inode_machine.specs.VersionOne as one
-use Rattle.inodes_on_blocks.proofs.Vocabulary.{◌≡◌, ◌≢◌, inl, inr, ℕ, pos, ◌+◌, ◌-◌, ◌^◌, ◌<◌, ◌==◌, nat_lt, Bool, true, false, Option, Some, None, refl, sym, ◌∙◌, ap, subst, arith, if◌then◌else◌, IsSome, is_some, slice_get, nat_tests, none-some, Dinode, Node, put, hart_count, root, same_or, and_true, eq_is, eq_not, put_same, put_other, sum_part, HoldsAt, IsRecord, ExecResult, Waits, Ran, Stops, exec_result_in, Laws, Both, TablesState, references_of, up_inode, up_directory, directory_of, dead_of, DroppedState, Counts, Stays, Dies, drop_inode, drop_walked, Number, Walked, UpStart, Up, WalkDown, Down, counted_up, has_place, up_if, start_if, counted_down, reserved, is_last, walk_down_if, down_if, Inv, put_elim, ours_none, ours_some, two_refs, opens_slots, Numbered, found_number, start_is_number, loaded, BothCame, MayDie, load_after, World, log_of, tables_of, disk_of, inode_in, Shows, Had, Carry, IsLoaded, Base, Labels, labelled, Keeps, IsOpened, up_start, walk_down, down, is_listed, is_dying, had_of, with_dying, ActsOnce, Loaded, IsIndexOf}
+use Rattle.inodes_on_blocks.proofs.Vocabulary.{◌≡◌, ◌≢◌, inl, inr, ℕ, pos, ◌+◌, ◌-◌, ◌^◌, ◌<◌, ◌==◌, nat_lt, Bool, true, false, Option, Some, None, refl, sym, ◌∙◌, ap, subst, arith, if◌then◌else◌, IsSome, is_some, slice_get, nat_tests, none-some, Dinode, Node, put, hart_count, root, same_or, and_true, eq_is, eq_not, put_same, put_other, sum_part, HoldsAt, IsRecord, ExecResult, Waits, Ran, Stops, exec_result_in, Laws, Both, TablesState, references_of, up_inode, up_directory, directory_of, dead_of, DroppedState, Counts, Stays, Dies, drop_inode, drop_walked, Number, Walked, UpStart, Up, WalkDown, Down, counted_up, has_place, up_if, start_if, counted_down, reserved, is_last, walk_down_if, down_if, Inv, put_elim, ours_none, ours_some, two_refs, opens_slots, Numbered, found_number, start_is_number, loaded, BothCame, MayDie, load_after, World, log_of, tables_of, disk_of, inode_in, Shows, Had, Carry, IsLoaded, Base, Labels, labelled, Keeps, IsOpened, up_start, walk_down, down, is_listed, is_dying, had_of, with_dying, ActsOnceAt, Loaded, IsIndexOf, Super, version_in}
 use Rattle.fs_machine.specs.Inodes.{is_positive}
 use Rattle.fs_machine.specs.Steps as steps
 use Rattle.fs_machine.specs.Steps.{Directory, Held}
@@ -14,7 +13,7 @@ use Rattle.inodes_on_blocks.proofs.Drops.{walks_drop_references, references_are_
 use Rattle.inodes_on_blocks.specs.Handlers.{up}
 use Rattle.inodes_on_blocks.proofs.SlotSteps.{in_tables_is, came_quiet, all_same}
 
-module _ (l : Labels) (laws : Laws (labelled l)) (keeps : Keeps l) (h : ℕ) (lt : h < hart_count) where
+module _ (sizes : Super) (l : Labels) (laws : Laws (labelled sizes.version l)) (keeps : Keeps l) (h : ℕ) (lt : h < hart_count) where
   abbrev W : Type 0
   W = Both World above.World
 
@@ -25,7 +24,7 @@ module _ (l : Labels) (laws : Laws (labelled l)) (keeps : Keeps l) (h : ℕ) (lt
   -- ---- up
 
   counted_came : (op : above.Op) (n : ℕ) (v : W) (c : Carry) (b : above.Answer op) (t : TablesState) → Shows v.real v.seen → Base h v.real v.seen c → (v.seen.desks h).lender ≡ None → Numbered n v.seen
-      → one.exec h above.Room op v.seen ≡ Ran b (counted_up h n v.seen) → tables.Shows t (counted_up h n v.seen) (loaded (tables_of v.real)) → Came l laws keeps h op v b (with_tables v.real t) c
+      → above_exec.exec sizes.version h above.Room op v.seen ≡ Ran b (counted_up h n v.seen) → tables.Shows t (counted_up h n v.seen) (loaded (tables_of v.real)) → Came sizes l laws keeps h op v b (with_tables v.real t) c
   counted_came op n v c b t shows base free range ran after = record {
     then_ = counted_up h n v.seen;
     ran = ran;
@@ -50,26 +49,26 @@ module _ (l : Labels) (laws : Laws (labelled l)) (keeps : Keeps l) (h : ℕ) (lt
   }
 
   up_to : (op : above.Op) (n : ℕ) (v : W) (c : Carry) (answer : Option ℕ → above.Answer op) (yes_ no_ : above.Answer op) → answer (Some n) ≡ yes_ → answer None ≡ no_ → Shows v.real v.seen → Base h v.real v.seen c → (v.seen.desks h).lender ≡ None → Numbered n v.seen
-      → (has_place v.seen n ≡ true → one.exec h above.Room op v.seen ≡ Ran yes_ (counted_up h n v.seen)) → (has_place v.seen n ≡ false → one.exec h above.Room op v.seen ≡ Ran no_ v.seen)
-      → CameTo l laws keeps h op v ⊥ (exec_result_in (with_tables v.real) (up_inode n (tables_of v.real))) answer (λ a. c)
+      → (has_place v.seen n ≡ true → above_exec.exec sizes.version h above.Room op v.seen ≡ Ran yes_ (counted_up h n v.seen)) → (has_place v.seen n ≡ false → above_exec.exec sizes.version h above.Room op v.seen ≡ Ran no_ v.seen)
+      → CameTo sizes l laws keeps h op v ⊥ (exec_result_in (with_tables v.real) (up_inode n (tables_of v.real))) answer (λ a. c)
   up_to op n v c answer yes_ no_ is_yes is_no shows base free range goes stays =
       by_place h n (tables_of v.real) v.seen (loaded (tables_of v.real)) shows.tables range.low range.size _
       (λ t ran there after.
-      subst (λ (d : ExecResult (Option ℕ) TablesState). CameTo l laws keeps h op v ⊥ (exec_result_in (with_tables v.real) d) answer (λ a. c)) (sym ran)
+      subst (λ (d : ExecResult (Option ℕ) TablesState). CameTo sizes l laws keeps h op v ⊥ (exec_result_in (with_tables v.real) d) answer (λ a. c)) (sym ran)
       (counted_came op n v c (answer (Some n)) t shows base free range (goes there ∙ ap (λ (b : above.Answer op). Ran b (counted_up h n v.seen)) (sym is_yes)) after))
       (λ ran there.
-      subst (λ (d : ExecResult (Option ℕ) TablesState). CameTo l laws keeps h op v ⊥ (exec_result_in (with_tables v.real) d) answer (λ a. c)) (sym ran)
-      (came_quiet l laws keeps h lt op v (answer None) (tables_of v.real) v.seen c shows base free (stays there ∙ ap (λ (b : above.Answer op). Ran b v.seen) (sym is_no)) shows.tables (all_same h v.seen)))
+      subst (λ (d : ExecResult (Option ℕ) TablesState). CameTo sizes l laws keeps h op v ⊥ (exec_result_in (with_tables v.real) d) answer (λ a. c)) (sym ran)
+      (came_quiet sizes l laws keeps h lt op v (answer None) (tables_of v.real) v.seen c shows base free (stays there ∙ ap (λ (b : above.Answer op). Ran b v.seen) (sym is_no)) shows.tables (all_same h v.seen)))
 
-  pub up_acts : (n : ℕ) (m : Bool → Option above.Mark) → ActsOnce l h (Up n) m (up n)
+  pub up_acts : (n : ℕ) (m : Bool → Option above.Mark) → ActsOnceAt sizes l h (Up n) m (up n)
   unfolding steps.exec premises.May premises.MayWait
   up_acts n m =
-      one_step l laws keeps h (Up n) m (λ c. steps.Up (Number n)) (λ c. is_some) (λ c a. c) (λ v. tt)
+      one_step sizes l laws keeps h (Up n) m (λ c. steps.Up (Number n)) (λ c. is_some) (λ c a. c) (λ v. tt)
       (λ v c shows inv base may.
       let range = found_number h n v.seen inv may.1 in (
         (in_word n v shows range.size, subst (λ (k : ℕ). k + 1 < 2 ^ 32) (shows.tables.places.counts n) range.room),
         λ x t.
-            subst (λ (d : ExecResult (Option ℕ) World). CameTo l laws keeps h (Up n) v ⊥ d is_some (λ a. c)) (sym (in_tables_is h (steps.Up (Number n)) v.real (λ a o. refl) (λ s. refl) (λ a l. refl) (up_inode n (tables_of v.real))))
+            subst (λ (d : ExecResult (Option ℕ) World). CameTo sizes l laws keeps h (Up n) v ⊥ d is_some (λ a. c)) (sym (in_tables_is h (steps.Up (Number n)) v.real (λ a o. refl) (λ s. refl) (λ a l. refl) (up_inode n (tables_of v.real))))
             (up_to (Up n) n v c is_some true false refl refl shows base may.0 range (λ e. ap (up_if h n v.seen) e) (λ e. ap (up_if h n v.seen) e)),
       ))
 
@@ -83,24 +82,24 @@ module _ (l : Labels) (laws : Laws (labelled l)) (keeps : Keeps l) (h : ℕ) (lt
         subst (λ (k : ℕ). references_of k (tables_of v.real) + 1 < 2 ^ 32) (sym is) (subst (λ (k : ℕ). k + 1 < 2 ^ 32) (shows.tables.places.counts (v.seen.desks h).directory) range.room),
       )
 
-  pub up_start_acts : (absolute : Bool) (m : Option ℕ → Option above.Mark) → ActsOnce l h (UpStart absolute) m (up_start absolute)
+  pub up_start_acts : (absolute : Bool) (m : Option ℕ → Option above.Mark) → ActsOnceAt sizes l h (UpStart absolute) m (up_start absolute)
   unfolding steps.exec premises.May premises.MayWait
   up_start_acts true m =
-      one_step l laws keeps h (UpStart true) m (λ c. steps.Up (Number root)) (λ c a. a) (λ c a. c) (λ v. tt)
+      one_step sizes l laws keeps h (UpStart true) m (λ c. steps.Up (Number root)) (λ c a. a) (λ c a. c) (λ v. tt)
       (λ v c shows inv base may.
       let range = start_is_number h true v.seen lt inv in (
         (in_word root v shows range.size, subst (λ (k : ℕ). k + 1 < 2 ^ 32) (shows.tables.places.counts root) range.room),
         λ x t.
-            subst (λ (d : ExecResult (Option ℕ) World). CameTo l laws keeps h (UpStart true) v ⊥ d (λ a. a) (λ a. c)) (sym (in_tables_is h (steps.Up (Number root)) v.real (λ a o. refl) (λ s. refl) (λ a l. refl) (up_inode root (tables_of v.real))))
+            subst (λ (d : ExecResult (Option ℕ) World). CameTo sizes l laws keeps h (UpStart true) v ⊥ d (λ a. a) (λ a. c)) (sym (in_tables_is h (steps.Up (Number root)) v.real (λ a o. refl) (λ s. refl) (λ a l. refl) (up_inode root (tables_of v.real))))
             (up_to (UpStart true) root v c (λ a. a) (Some root) None refl refl shows base may.0 range (λ e. ap (start_if h root v.seen) e) (λ e. ap (start_if h root v.seen) e)),
       ))
   up_start_acts false m =
-      one_step l laws keeps h (UpStart false) m (λ c. steps.Up Directory) (λ c a. a) (λ c a. c) (λ v. tt)
+      one_step sizes l laws keeps h (UpStart false) m (λ c. steps.Up Directory) (λ c a. a) (λ c a. c) (λ v. tt)
       (λ v c shows inv base may.
       let range = start_is_number h false v.seen lt inv in (
         (lt, may_up_directory v shows inv),
         λ x t.
-            subst (λ (d : ExecResult (Option ℕ) World). CameTo l laws keeps h (UpStart false) v ⊥ d (λ a. a) (λ a. c))
+            subst (λ (d : ExecResult (Option ℕ) World). CameTo sizes l laws keeps h (UpStart false) v ⊥ d (λ a. a) (λ a. c))
             (sym (in_tables_is h (steps.Up Directory) v.real (λ a o. refl) (λ s. refl) (λ a l. refl) (up_directory h (tables_of v.real)) ∙ ap (exec_result_in (with_tables v.real)) (directories_are_starts h (tables_of v.real) v.seen (loaded (tables_of v.real)) shows.tables lt)))
             (up_to (UpStart false) (v.seen.desks h).directory v c (λ a. a) (Some (v.seen.desks h).directory) None refl refl shows base may.0 range (λ e. ap (start_if h (v.seen.desks h).directory v.seen) e) (λ e. ap (start_if h (v.seen.desks h).directory v.seen) e)),
       ))
@@ -150,7 +149,7 @@ module _ (l : Labels) (laws : Laws (labelled l)) (keeps : Keeps l) (h : ℕ) (lt
   dies_alike : (n : ℕ) (v : W) → Shows v.real v.seen → v.real.new n ≡ None → 0 < v.seen.refs n → v.seen.lock n ≡ None → (above_exec.is_dead (v.seen.disk n) ≡ true → v.seen.keeper n ≡ None) → is_some (dead_of (loaded (tables_of v.real) n)) ≡ above_exec.is_dead (v.seen.disk n)
   dies_alike n v shows old some free loose = by (loaded (tables_of v.real) n) refl (v.seen.disk n) refl (unlocked_holds h lt v.real v.seen shows n free old (shows.tables.range n some).0 (shows.tables.range n some).1).inode
     where
-      by : (o : Option Loaded) → loaded (tables_of v.real) n ≡ o → (x : Option Node) → v.seen.disk n ≡ x → IsRecord (inode_in (log_of v.real) n) (v.seen.disk n) → is_some (dead_of o) ≡ above_exec.is_dead x
+      by : (o : Option Loaded) → loaded (tables_of v.real) n ≡ o → (x : Option Node) → v.seen.disk n ≡ x → IsRecord (version_in (disk_of (log_of v.real))) (inode_in (log_of v.real) n) (v.seen.disk n) → is_some (dead_of o) ≡ above_exec.is_dead x
       by None e x q r = alive (above_exec.is_dead x) refl
         where
           alive : (b : Bool) → above_exec.is_dead x ≡ b → false ≡ above_exec.is_dead x
@@ -158,7 +157,7 @@ module _ (l : Labels) (laws : Laws (labelled l)) (keeps : Keeps l) (h : ℕ) (lt
           alive true z = absurd (let s : IsSome {T = Loaded} None = subst IsSome e (shows.loads.dead n some free (loose (ap above_exec.is_dead q ∙ z)) (ap above_exec.is_dead q ∙ z)) in cc s)
       by (Some d) e None q r = absurd (none-some d (sym (shows.loads.typed n q) ∙ e))
       by (Some d) e (Some x) q r =
-          let in_ : IsRecord (inode_in (log_of v.real) n) (Some x) = subst (IsRecord (inode_in (log_of v.real) n)) q r in
+          let in_ : IsRecord (version_in (disk_of (log_of v.real))) (inode_in (log_of v.real) n) (Some x) = subst (IsRecord (version_in (disk_of (log_of v.real))) (inode_in (log_of v.real) n)) q r in
           let link : d.inode.nlink ≡ pos x.count = ap (λ (y : Dinode). y.nlink) (shows.loads.seen n d e) ∙ in_.count in
           (λ z. is_some (if is_positive (link z) then None else Some d)) ∙ count_is x.count d
 
@@ -172,7 +171,7 @@ module _ (l : Labels) (laws : Laws (labelled l)) (keeps : Keeps l) (h : ℕ) (lt
       record { some = some; free = last_free n v.seen inv mine may.1; alike = λ one. dies_alike n v shows (old one) some (last_free n v.seen inv mine may.1 one) (loose one) }
 
   pub counted_down_came : (op : above.Op) (n : ℕ) (v : W) (c : Carry) (b : above.Answer op) (t : TablesState) → Shows v.real v.seen → Base h v.real v.seen c → (v.seen.desks h).lender ≡ None → v.seen.lock n ≢ Some h → (v.seen.alone n ≡ true → above_exec.is_dead (v.seen.disk n) ≡ false) → (v.seen.alone n ≡ true → v.real.new n ≡ None)
-      → one.exec h above.Room op v.seen ≡ Ran b (counted_down h n v.seen) → tables.Shows t (counted_down h n v.seen) (load_after n (v.seen.refs n) (loaded (tables_of v.real)) Counts) → Came l laws keeps h op v b (with_tables v.real t) c
+      → above_exec.exec sizes.version h above.Room op v.seen ≡ Ran b (counted_down h n v.seen) → tables.Shows t (counted_down h n v.seen) (load_after n (v.seen.refs n) (loaded (tables_of v.real)) Counts) → Came sizes l laws keeps h op v b (with_tables v.real t) c
   counted_down_came op n v c b t shows base free not_mine lone old ran after = record {
     then_ = counted_down h n v.seen;
     ran = ran;
@@ -238,13 +237,13 @@ module _ (l : Labels) (laws : Laws (labelled l)) (keeps : Keeps l) (h : ℕ) (lt
       typed false i e = shows.loads.typed i e
       typed true i e = elim (same_or i n) [ inl q ↦ ap (put load n None) q ∙ put_same load n None | inr ne ↦ put_other load n None i ne ∙ shows.loads.typed i e ]
 
-      indexed : (b : Bool) (i : ℕ) (d : Loaded) → left b i ≡ Some d → IsIndexOf d.index (v.seen.disk i)
+      indexed : (b : Bool) (i : ℕ) (d : Loaded) → left b i ≡ Some d → IsIndexOf (log_of v.real).sizes.version d.index (v.seen.disk i)
       indexed false i d e = shows.loads.indexed i d e
-      indexed true i d e = indexed_less load n v.seen.disk shows.loads.indexed i d e
+      indexed true i d e = indexed_less (log_of v.real).sizes.version load n v.seen.disk shows.loads.indexed i d e
 
   -- it stays, for the hart to free
   reserved_came : (op : above.Op) (n : ℕ) (v : W) (c : Carry) (b : above.Answer op) (t : TablesState) → Shows v.real v.seen → Base h v.real v.seen c → (v.seen.desks h).lender ≡ None → v.real.new n ≡ None
-      → one.exec h above.Room op v.seen ≡ Ran b (reserved h n v.seen) → tables.Shows t (reserved h n v.seen) (loaded (tables_of v.real)) → Came l laws keeps h op v b (with_tables v.real t) c
+      → above_exec.exec sizes.version h above.Room op v.seen ≡ Ran b (reserved h n v.seen) → tables.Shows t (reserved h n v.seen) (loaded (tables_of v.real)) → Came sizes l laws keeps h op v b (with_tables v.real t) c
   reserved_came op n v c b t shows base free old ran after = record {
     then_ = reserved h n v.seen;
     ran = ran;
@@ -262,8 +261,8 @@ module _ (l : Labels) (laws : Laws (labelled l)) (keeps : Keeps l) (h : ℕ) (lt
 
   -- its lock is taken, to free it
   dying_came : (op : above.Op) (n : ℕ) (v : W) (c : Carry) (b : above.Answer op) (t : TablesState) → Shows v.real v.seen → Base h v.real v.seen c → (v.seen.desks h).lender ≡ None → 0 < v.seen.refs n → v.seen.lock n ≡ None → v.seen.keeper n ≡ None → above_exec.is_dead (v.seen.disk n) ≡ true
-      → one.exec h above.Room op v.seen ≡ Ran b (record (reserved h n v.seen) { lock = put v.seen.lock n (Some h) }) → tables.Shows t (record (reserved h n v.seen) { lock = put v.seen.lock n (Some h) }) (put (loaded (tables_of v.real)) n None)
-      → Came l laws keeps h op v b (with_tables v.real t) (put c n (had_of (loaded (tables_of v.real) n)))
+      → above_exec.exec sizes.version h above.Room op v.seen ≡ Ran b (record (reserved h n v.seen) { lock = put v.seen.lock n (Some h) }) → tables.Shows t (record (reserved h n v.seen) { lock = put v.seen.lock n (Some h) }) (put (loaded (tables_of v.real)) n None)
+      → Came sizes l laws keeps h op v b (with_tables v.real t) (put c n (had_of (loaded (tables_of v.real) n)))
   dying_came op n v c b t shows base free some unlocked unkept dead ran after = record {
     then_ = record (reserved h n v.seen) { lock = put v.seen.lock n (Some h) };
     ran = ran;
@@ -287,7 +286,7 @@ module _ (l : Labels) (laws : Laws (labelled l)) (keeps : Keeps l) (h : ℕ) (lt
             | inr ne ↦ subst IsSome (sym (put_other load n None i ne)) (shows.loads.dead i more (sym (put_other v.seen.lock n (Some h) i ne) ∙ loose) (sym (put_other v.seen.keeper n (Some h) i ne) ∙ lax) gone)
           ];
           typed = λ i e. elim (same_or i n) [ inl q ↦ ap (put load n None) q ∙ put_same load n None | inr ne ↦ put_other load n None i ne ∙ shows.loads.typed i e ];
-          indexed = indexed_less load n v.seen.disk shows.loads.indexed;
+          indexed = indexed_less (log_of v.real).sizes.version load n v.seen.disk shows.loads.indexed;
         }) shows.offsets;
     same = tables_left h v.real t v.seen (record (reserved h n v.seen) { lock = put v.seen.lock n (Some h) }) load (put load n None) shows.tables after
         (λ i. elim (same_or i n) [
@@ -298,7 +297,7 @@ module _ (l : Labels) (laws : Laws (labelled l)) (keeps : Keeps l) (h : ℕ) (lt
         (λ i e. elim (same_or i n) [
           | inl q ↦ inr (record {
             keeps = ap (put v.seen.keeper n (Some h)) q ∙ put_same v.seen.keeper n (Some h);
-            loaded_is = subst (λ (z : ℕ). IsLoaded (put c n (had_of (load n)) z) (v.seen.disk z) (inode_in (log_of v.real) z)) (sym q) (subst (λ (o : Had). IsLoaded o (v.seen.disk n) (inode_in (log_of v.real) n)) (sym (put_same c n (had_of (load n)))) (is_loaded (load n) refl));
+            loaded_is = subst (λ (z : ℕ). IsLoaded (log_of v.real).sizes.version (put c n (had_of (load n)) z) (v.seen.disk z) (inode_in (log_of v.real) z)) (sym q) (subst (λ (o : Had). IsLoaded (log_of v.real).sizes.version o (v.seen.disk n) (inode_in (log_of v.real) n)) (sym (put_same c n (had_of (load n)))) (is_loaded (load n) refl));
             holds = subst (λ (z : ℕ). HoldsAt (disk_of (log_of v.real)) v.real.owner z (v.seen.disk z)) (sym q) (unlocked_holds h lt v.real v.seen shows n unlocked (unkept_old v.real v.seen shows n unkept) (shows.tables.range n some).0 (shows.tables.range n some).1);
             opened = subst (λ (z : ℕ). IsOpened h z (put c n (had_of (load n)) z) (record (reserved h n v.seen) { lock = put v.seen.lock n (Some h) })) (sym q) (subst (λ (o : Had). IsOpened h n o (record (reserved h n v.seen) { lock = put v.seen.lock n (Some h) })) (sym (put_same c n (had_of (load n)))) (nothing_open (load n)));
           })
@@ -315,7 +314,7 @@ module _ (l : Labels) (laws : Laws (labelled l)) (keeps : Keeps l) (h : ℕ) (lt
       nothing_open None = tt
       nothing_open (Some d) = tt
 
-      is_loaded : (o : Option Loaded) → load n ≡ o → IsLoaded (had_of o) (v.seen.disk n) (inode_in (log_of v.real) n)
+      is_loaded : (o : Option Loaded) → load n ≡ o → IsLoaded (log_of v.real).sizes.version (had_of o) (v.seen.disk n) (inode_in (log_of v.real) n)
       is_loaded None e = absurd (let s : IsSome {T = Loaded} None = subst IsSome e (shows.loads.dead n some unlocked unkept dead) in cc s)
       is_loaded (Some d) e = (shows.loads.seen n d e, (λ z. none-some d (sym (shows.loads.typed n z) ∙ e)), tt, shows.loads.indexed n d e)
 
@@ -335,23 +334,23 @@ module _ (l : Labels) (laws : Laws (labelled l)) (keeps : Keeps l) (h : ℕ) (lt
   unheld : (n : ℕ) (v : W) → Inv v.seen → v.seen.keeper n ≢ Some h → v.seen.lock n ≢ Some h
   unheld n v inv not_kept e = not_kept (inv.keeps n h e)
 
-  pub walk_down_acts : (n : ℕ) (m : Bool → Option above.Mark) → ActsOnce l h (WalkDown n) m (walk_down n)
+  pub walk_down_acts : (n : ℕ) (m : Bool → Option above.Mark) → ActsOnceAt sizes l h (WalkDown n) m (walk_down n)
   unfolding steps.exec premises.May premises.MayWait
   walk_down_acts n m =
-      one_step l laws keeps h (WalkDown n) m (λ c. steps.Down (Walked n)) (λ c. is_listed) (λ c a. c) (λ v. tt)
+      one_step sizes l laws keeps h (WalkDown n) m (λ c. steps.Down (Walked n)) (λ c. is_listed) (λ c a. c) (λ v. tt)
       (λ v c shows inv base may. (
         (fewer_owed n (tables_of v.real) v.seen (loaded (tables_of v.real)) shows.tables inv h lt may.1.0, λ one. sym (shows.tables.places.holders n) ∙ last_free n v.seen inv (some_here n v.seen may.1.0) (unheld n v inv may.1.1) (shows.tables.places.counts n ∙ one)),
         λ x t.
-            subst (λ (d : ExecResult DroppedState World). CameTo l laws keeps h (WalkDown n) v ⊥ d is_listed (λ a. c)) (sym (in_tables_is h (steps.Down (Walked n)) v.real (λ a o. refl) (λ s. refl) (λ a l. refl) (drop_walked n (tables_of v.real))))
-            (by v c shows base may.0 (unheld n v inv may.1.1) (unlone n v inv (some_here n v.seen may.1.0) may.1.1) (unlone n v inv (some_here n v.seen may.1.0) may.1.1) (λ one. unkept_old v.real v.seen shows n (last_loose n v.seen inv (some_here n v.seen may.1.0) may.1.1 one)) (is_last v.seen n) refl (drop_walked n (tables_of v.real)) (walks_drop_references h n (tables_of v.real) v.seen (loaded (tables_of v.real)) shows.tables (may_die n v shows inv (λ one. unkept_old v.real v.seen shows n (last_loose n v.seen inv (some_here n v.seen may.1.0) may.1.1 one)) (may.1.0, unheld n v inv may.1.1) (λ one _. last_loose n v.seen inv (some_here n v.seen may.1.0) may.1.1 one)))),
+            subst (λ (d : ExecResult DroppedState World). CameTo sizes l laws keeps h (WalkDown n) v ⊥ d is_listed (λ a. c)) (sym (in_tables_is h (steps.Down (Walked n)) v.real (λ a o. refl) (λ s. refl) (λ a l. refl) (drop_walked n (tables_of v.real))))
+            (by v c shows base may.0 (unheld n v inv may.1.1) (unlone n v inv (some_here n v.seen may.1.0) may.1.1) (unlone n v inv (some_here n v.seen may.1.0) may.1.1) (λ one. unkept_old v.real v.seen shows n (last_loose n v.seen inv (some_here n v.seen may.1.0) may.1.1 one)) (is_last v.seen n) refl (drop_walked n (tables_of v.real)) (walks_drop_references sizes.version h n (tables_of v.real) v.seen (loaded (tables_of v.real)) shows.tables (may_die n v shows inv (λ one. unkept_old v.real v.seen shows n (last_loose n v.seen inv (some_here n v.seen may.1.0) may.1.1 one)) (may.1.0, unheld n v inv may.1.1) (λ one _. last_loose n v.seen inv (some_here n v.seen may.1.0) may.1.1 one)))),
       ))
     where
       by : (v : W) (c : Carry) → Shows v.real v.seen → Base h v.real v.seen c → (v.seen.desks h).lender ≡ None → v.seen.lock n ≢ Some h → (v.seen.alone n ≡ true → above_exec.is_dead (v.seen.disk n) ≡ false) → (v.seen.alone n ≡ true → v.real.new n ≡ None) → (v.seen.refs n ≡ 1 → v.real.new n ≡ None) → (b : Bool) → is_last v.seen n ≡ b → (d : ExecResult DroppedState TablesState)
-          → BothCame (λ a last. a ≡ (if last then Stays else Counts)) (load_after n (v.seen.refs n) (loaded (tables_of v.real))) d (walk_down_if h n v.seen (is_last v.seen n)) → CameTo l laws keeps h (WalkDown n) v ⊥ (exec_result_in (with_tables v.real) d) is_listed (λ a. c)
+          → BothCame (λ a last. a ≡ (if last then Stays else Counts)) (load_after n (v.seen.refs n) (loaded (tables_of v.real))) d (walk_down_if h n v.seen (is_last v.seen n)) → CameTo sizes l laws keeps h (WalkDown n) v ⊥ (exec_result_in (with_tables v.real) d) is_listed (λ a. c)
       by v c shows base free not_mine lone lone_old old b e d both = at b e d (subst (λ (z : Bool). BothCame (λ a last. a ≡ (if last then Stays else Counts)) (load_after n (v.seen.refs n) (loaded (tables_of v.real))) d (walk_down_if h n v.seen z)) e both)
         where
           at : (b : Bool) → is_last v.seen n ≡ b → (d : ExecResult DroppedState TablesState) → BothCame (λ a last. a ≡ (if last then Stays else Counts)) (load_after n (v.seen.refs n) (loaded (tables_of v.real))) d (walk_down_if h n v.seen b)
-              → CameTo l laws keeps h (WalkDown n) v ⊥ (exec_result_in (with_tables v.real) d) is_listed (λ a. c)
+              → CameTo sizes l laws keeps h (WalkDown n) v ⊥ (exec_result_in (with_tables v.real) d) is_listed (λ a. c)
           at true e Waits both = absurd both
           at true e (Stops t) both = absurd both
           at true e (Ran a t) both =
@@ -363,33 +362,33 @@ module _ (l : Labels) (laws : Laws (labelled l)) (keeps : Keeps l) (h : ℕ) (lt
               counted_down_came (WalkDown n) n v c (is_listed a) t shows base free not_mine lone lone_old (ap (walk_down_if h n v.seen) e ∙ ap (λ (z : DroppedState). Ran (is_listed z) (counted_down h n v.seen)) (sym both.0))
               (subst (λ (z : DroppedState). tables.Shows t (counted_down h n v.seen) (load_after n (v.seen.refs n) (loaded (tables_of v.real)) z)) both.0 both.1)
 
-  pub down_acts : (n : ℕ) (m : Bool → Option above.Mark) → ActsOnce l h (Down n) m (down n)
+  pub down_acts : (n : ℕ) (m : Bool → Option above.Mark) → ActsOnceAt sizes l h (Down n) m (down n)
   unfolding steps.exec premises.May premises.MayWait
   down_acts n m =
-      one_step l laws keeps h (Down n) m (λ c. steps.Down (Held n)) (λ c. is_dying) (with_dying n) (λ v. tt)
+      one_step sizes l laws keeps h (Down n) m (λ c. steps.Down (Held n)) (λ c. is_dying) (with_dying n) (λ v. tt)
       (λ v c shows inv base may. (
         (fewer_owed n (tables_of v.real) v.seen (loaded (tables_of v.real)) shows.tables inv h lt may.1.0, λ one. sym (shows.tables.places.holders n) ∙ last_free n v.seen inv (some_here n v.seen may.1.0) (unheld n v inv may.1.1) (shows.tables.places.counts n ∙ one)),
         λ x t.
-            subst (λ (d : ExecResult DroppedState World). CameTo l laws keeps h (Down n) v ⊥ d is_dying (with_dying n c)) (sym (in_tables_is h (steps.Down (Held n)) v.real (λ a o. refl) (λ s. refl) (λ a l. refl) (drop_inode h n (tables_of v.real))))
-            (by v c shows base may.0 (may_die n v shows inv (λ one. unkept_old v.real v.seen shows n (last_loose n v.seen inv (some_here n v.seen may.1.0) may.1.1 one)) (may.1.0, unheld n v inv may.1.1) (λ one _. last_loose n v.seen inv (some_here n v.seen may.1.0) may.1.1 one)) (λ one. last_loose n v.seen inv (some_here n v.seen may.1.0) may.1.1 one) (unheld n v inv may.1.1) (unlone n v inv (some_here n v.seen may.1.0) may.1.1) (unlone n v inv (some_here n v.seen may.1.0) may.1.1) (is_last v.seen n) refl (drop_inode h n (tables_of v.real)) (references_are_dropped h n (tables_of v.real) v.seen (loaded (tables_of v.real)) shows.tables (may_die n v shows inv (λ one. unkept_old v.real v.seen shows n (last_loose n v.seen inv (some_here n v.seen may.1.0) may.1.1 one)) (may.1.0, unheld n v inv may.1.1) (λ one _. last_loose n v.seen inv (some_here n v.seen may.1.0) may.1.1 one)))),
+            subst (λ (d : ExecResult DroppedState World). CameTo sizes l laws keeps h (Down n) v ⊥ d is_dying (with_dying n c)) (sym (in_tables_is h (steps.Down (Held n)) v.real (λ a o. refl) (λ s. refl) (λ a l. refl) (drop_inode h n (tables_of v.real))))
+            (by v c shows base may.0 (may_die n v shows inv (λ one. unkept_old v.real v.seen shows n (last_loose n v.seen inv (some_here n v.seen may.1.0) may.1.1 one)) (may.1.0, unheld n v inv may.1.1) (λ one _. last_loose n v.seen inv (some_here n v.seen may.1.0) may.1.1 one)) (λ one. last_loose n v.seen inv (some_here n v.seen may.1.0) may.1.1 one) (unheld n v inv may.1.1) (unlone n v inv (some_here n v.seen may.1.0) may.1.1) (unlone n v inv (some_here n v.seen may.1.0) may.1.1) (is_last v.seen n) refl (drop_inode h n (tables_of v.real)) (references_are_dropped sizes.version h n (tables_of v.real) v.seen (loaded (tables_of v.real)) shows.tables (may_die n v shows inv (λ one. unkept_old v.real v.seen shows n (last_loose n v.seen inv (some_here n v.seen may.1.0) may.1.1 one)) (may.1.0, unheld n v inv may.1.1) (λ one _. last_loose n v.seen inv (some_here n v.seen may.1.0) may.1.1 one)))),
       ))
     where
       by : (v : W) (c : Carry) → Shows v.real v.seen → Base h v.real v.seen c → (v.seen.desks h).lender ≡ None → MayDie n v.seen (loaded (tables_of v.real)) → (v.seen.refs n ≡ 1 → v.seen.keeper n ≡ None) → v.seen.lock n ≢ Some h → (v.seen.alone n ≡ true → above_exec.is_dead (v.seen.disk n) ≡ false) → (v.seen.alone n ≡ true → v.real.new n ≡ None) → (b : Bool) → is_last v.seen n ≡ b → (d : ExecResult DroppedState TablesState)
-          → BothCame (λ a last. a ≡ (if last then Dies n (loaded (tables_of v.real) n) else Counts)) (load_after n (v.seen.refs n) (loaded (tables_of v.real))) d (down_if h n v.seen (is_last v.seen n)) → CameTo l laws keeps h (Down n) v ⊥ (exec_result_in (with_tables v.real) d) is_dying (with_dying n c)
+          → BothCame (λ a last. a ≡ (if last then Dies n (loaded (tables_of v.real) n) else Counts)) (load_after n (v.seen.refs n) (loaded (tables_of v.real))) d (down_if h n v.seen (is_last v.seen n)) → CameTo sizes l laws keeps h (Down n) v ⊥ (exec_result_in (with_tables v.real) d) is_dying (with_dying n c)
       by v c shows base free die unkept not_mine lone lone_old b e d both = at b e d (subst (λ (z : Bool). BothCame (λ a last. a ≡ (if last then Dies n (loaded (tables_of v.real) n) else Counts)) (load_after n (v.seen.refs n) (loaded (tables_of v.real))) d (down_if h n v.seen z)) e both)
         where
           at : (b : Bool) → is_last v.seen n ≡ b → (d : ExecResult DroppedState TablesState) → BothCame (λ a last. a ≡ (if last then Dies n (loaded (tables_of v.real) n) else Counts)) (load_after n (v.seen.refs n) (loaded (tables_of v.real))) d (down_if h n v.seen b)
-              → CameTo l laws keeps h (Down n) v ⊥ (exec_result_in (with_tables v.real) d) is_dying (with_dying n c)
+              → CameTo sizes l laws keeps h (Down n) v ⊥ (exec_result_in (with_tables v.real) d) is_dying (with_dying n c)
           at true e Waits both = absurd both
           at true e (Stops t) both = absurd both
           at true e (Ran a t) both =
               let last = last_is n v.seen e in
-              subst (λ (z : DroppedState). Came l laws keeps h (Down n) v (is_dying z) (with_tables v.real t) (with_dying n c z)) (sym both.0)
+              subst (λ (z : DroppedState). Came sizes l laws keeps h (Down n) v (is_dying z) (with_tables v.real t) (with_dying n c z)) (sym both.0)
               (dying_came (Down n) n v c true t shows base free die.some (die.free last.0) (unkept last.0) last.1 (ap (down_if h n v.seen) e)
               (subst (λ (z : DroppedState). tables.Shows t (record (reserved h n v.seen) { lock = put v.seen.lock n (Some h) }) (load_after n (v.seen.refs n) (loaded (tables_of v.real)) z)) both.0 both.1))
           at false e Waits both = absurd both
           at false e (Stops t) both = absurd both
           at false e (Ran a t) both =
-              subst (λ (z : DroppedState). Came l laws keeps h (Down n) v (is_dying z) (with_tables v.real t) (with_dying n c z)) (sym both.0)
+              subst (λ (z : DroppedState). Came sizes l laws keeps h (Down n) v (is_dying z) (with_tables v.real t) (with_dying n c z)) (sym both.0)
               (counted_down_came (Down n) n v c false t shows base free not_mine lone lone_old (ap (down_if h n v.seen) e)
               (subst (λ (z : DroppedState). tables.Shows t (counted_down h n v.seen) (load_after n (v.seen.refs n) (loaded (tables_of v.real)) z)) both.0 both.1))

@@ -46,18 +46,18 @@ pub record PutFor (h n b : ℕ) (Stage : above.World → Type 0) (c : Carry) (o 
   pub count : in_hand h v.real ≡ suc (in_hand h x.real)
   pub known : Then x.real
 
-module _ (sizes : Super) (l : Labels) (laws : Laws (labelled l)) (keeps : Keeps l) (h : ℕ) (lt : h < hart_count) (B : List l.Step → Type 0) where
+module _ (sizes : Super) (l : Labels) (laws : Laws (labelled sizes.version l)) (keeps : Keeps l) (h : ℕ) (lt : h < hart_count) (B : List l.Step → Type 0) where
   abbrev W : Type 0
   W = Both World above.World
 
   abbrev M : Machine
-  M = joined (labelled l) (below sizes)
+  M = joined (labelled sizes.version l) (below sizes)
 
-  module _ {A : Type 0} (Q : A → List l.Step → W → Type 0) (G : List l.Step → above.World → Type 0) (stable : Stable (labelled l) (below sizes) laws (below_laws sizes l keeps) h B G)
+  module _ {A : Type 0} (Q : A → List l.Step → W → Type 0) (G : List l.Step → above.World → Type 0) (stable : Stable (labelled sizes.version l) (below sizes) laws (below_laws sizes l keeps) h B G)
       (n : ℕ) (changes : (fs : List l.Step) (g : above.World) → G fs g → Inv g → IsChanging h n g) (c : Carry) (o : Option Node) (d e : Dinode) (x y : Node) (b : ℕ) (old bytes numbers : List ℕ) (block : IsData sizes b)
       (long : length bytes ≡ block_len) (are : IsBytes bytes)
       -- what such a put makes of it
-      (makes : (disk new : List (List ℕ)) (owner : ℕ → ℕ) → IsLaidOut disk owner n d x → numbers_of disk d ≡ numbers → recovered disk b ≡ old → IsPut disk new b → recovered new b ≡ bytes → Becomes disk new owner owner n d e y)
+      (makes : (disk new : List (List ℕ)) (owner : ℕ → ℕ) → sizes_of disk ≡ sizes → IsLaidOut disk owner n d x → numbers_of disk d ≡ numbers → recovered disk b ≡ old → IsPut disk new b → recovered new b ≡ bytes → Becomes disk new owner owner n d e y)
       (Knows Then : World → Type 0) (room : KeepsRoom h b Knows Then) where
     pub s-data : (k : Unit {0} → P M A) (j : ℕ) (fs : List l.Step) (v : W) → G fs v.seen → Shows v.real v.seen → Changing h n c o d x v.real v.seen → numbers_of (disk_of (log_of v.real)) d ≡ numbers → HasBuffer h b old v.real → (log_of v.real).sizes ≡ sizes → owner_with h n v.real b ≡ n → Knows v.real
         → ((z : W) (gs : List l.Step) → PutFor h n b (G gs) c o e y Then v z → Wp M h B Q (k tt) j gs z) → Wp M h B Q (Do (Put b (Some bytes)) unmarked k) (suc j) fs v
@@ -89,7 +89,7 @@ module _ (sizes : Super) (l : Labels) (laws : Laws (labelled l)) (keeps : Keeps 
         let past : (log_of r).sizes.bmapstart < b = subst (λ (s : Super). s.bmapstart < b) (sym sized) block.0 in
         let same_owners : owners_with h b bytes r ≡ owners_of r = data_owners h b bytes r past in
         let mine : owner_with h n (world_with h b bytes r) ≡ owner_with h n r = (λ z k. if is_hart ((same_owners z).taken k) h then n else (same_owners z).owner k) in
-        let becomes = makes (disk_of (log_of r)) (disk_of (log_with h b bytes r)) (owner_with h n r) there.laid
+        let becomes = makes (disk_of (log_of r)) (disk_of (log_with h b bytes r)) (owner_with h n r) disk_sizes there.laid
         (numbers_stay h n c o d x v.real r v.seen g shows here.shows (left_same h v.real r here.same) changing ∙ names)
         (old_bytes h b bytes r.state here.shows.whole here.shows.blocks.seen can ∙ buffer_seen h b old r buffer_there) put_is (put_bytes h b bytes r.state here.shows.whole here.shows.blocks.seen can) in
         record {

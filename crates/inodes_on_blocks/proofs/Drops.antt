@@ -145,7 +145,7 @@ module _ (h n k : ℕ) (t : TablesState) (w : World) (load : ℕ → Option Load
       last one (Some v) q fits = by_dead one v q (dead_of (load n)) refl
 
 pub walks_drop_references : WalksDropReferences
-walks_drop_references h n t w load shows may =
+walks_drop_references version h n t w load shows may =
     let p = place_there n t w load shows may.some in
     let k = p.0 in
     by_death h n k t w load shows may p.1 _
@@ -154,7 +154,7 @@ walks_drop_references h n t w load shows may =
     (record { sound = shows.sound; places = shows.places; files = shows.files; desks = shows.desks; lenders = shows.lenders; range = shows.range }))
 
 pub references_are_dropped : ReferencesAreDropped
-references_are_dropped h n t w load shows may =
+references_are_dropped version h n t w load shows may =
     let p = place_there n t w load shows may.some in
     let k = p.0 in
     by_death h n k t w load shows may p.1 _

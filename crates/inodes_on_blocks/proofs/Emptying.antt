@@ -51,14 +51,14 @@ one_more_block h n b u v w p q held = record {
 
 -- ---- the rule
 
-module _ (sizes : Super) (l : Labels) (laws : Laws (labelled l)) (keeps : Keeps l) (h : ℕ) (lt : h < hart_count) (B : List l.Step → Type 0) where
+module _ (sizes : Super) (l : Labels) (laws : Laws (labelled sizes.version l)) (keeps : Keeps l) (h : ℕ) (lt : h < hart_count) (B : List l.Step → Type 0) where
   abbrev W : Type 0
   W = Both World above.World
 
   abbrev M : Machine
-  M = joined (labelled l) (below sizes)
+  M = joined (labelled sizes.version l) (below sizes)
 
-  module _ {A : Type 0} (Q : A → List l.Step → W → Type 0) (G : List l.Step → above.World → Type 0) (stable : Stable (labelled l) (below sizes) laws (below_laws sizes l keeps) h B G)
+  module _ {A : Type 0} (Q : A → List l.Step → W → Type 0) (G : List l.Step → above.World → Type 0) (stable : Stable (labelled sizes.version l) (below sizes) laws (below_laws sizes l keeps) h B G)
       (n : ℕ) (changing : (fs : List l.Step) (g : above.World) → G fs g → Inv g → IsChanging h n g) (Knows : ℕ → World → Type 0) (room : (more : ℕ) → KeepsRoom h sizes.bmapstart (Knows (suc more)) (Knows more)) (fewer : (more : ℕ) (v : World) → Knows (suc more) v → Knows more v) (start : W) where
     -- Between two of them: these blocks of the inode are left, then those.
     pub record Left (rest : List ℕ) (fs : List l.Step) (w : W) : Type 0 where

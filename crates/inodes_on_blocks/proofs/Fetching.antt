@@ -153,19 +153,19 @@ failed_others v after is other =
 
 -- ---- the rules
 
-module _ (sizes : Super) (l : Labels) (laws : Laws (labelled l)) (keeps : Keeps l) (h : ℕ) (lt : h < hart_count) (B : List l.Step → Type 0) where
+module _ (sizes : Super) (l : Labels) (laws : Laws (labelled sizes.version l)) (keeps : Keeps l) (h : ℕ) (lt : h < hart_count) (B : List l.Step → Type 0) where
   abbrev W : Type 0
   W = Both World above.World
 
   abbrev M : Machine
-  M = joined (labelled l) (below sizes)
+  M = joined (labelled sizes.version l) (below sizes)
 
   elsewhere : (o : Option ℕ) → IsSome o → (o ≢ Some h) → IsElsewhere h o
   elsewhere None is ne = let isnt : IsSome {T = ℕ} None = is in absurd (cc isnt)
   elsewhere (Some g) is ne = (g, λ e. ne (ap (λ (z : ℕ). Some z) e), refl)
 
   abbrev IsSilent : {A : Type 0} → W → Type 0 → ExecResult A World → (A → World → Type 0) → Type 0
-  IsSilent v wait d N = Silent (labelled l) (below sizes) laws (below_laws sizes l keeps) h B v wait d N
+  IsSilent v wait d N = Silent (labelled sizes.version l) (below sizes) laws (below_laws sizes l keeps) h B v wait d N
 
   -- a buffer is got, or another hart has it
   get_silent : (x : Outside) (b : ℕ) (v : W) (N : Option (List ℕ) → World → Type 0) → Shows v.real v.seen → premises.May h (Get b) v.real.state
@@ -216,15 +216,15 @@ module _ (sizes : Super) (l : Labels) (laws : Laws (labelled l)) (keeps : Keeps 
       } in
       (quiet_shows h v.real v.seen shows ss quiet, quiet_others h v.real v.seen shows ss quiet, rest ss (back_hand h b (log_of v.real).seats may.0) quiet)
 
-  module _ {A : Type 0} (Q : A → List l.Step → W → Type 0) (G : List l.Step → above.World → Type 0) (stable : Stable (labelled l) (below sizes) laws (below_laws sizes l keeps) h B G) where
+  module _ {A : Type 0} (Q : A → List l.Step → W → Type 0) (G : List l.Step → above.World → Type 0) (stable : Stable (labelled sizes.version l) (below sizes) laws (below_laws sizes l keeps) h B G) where
     -- A hart with at most one buffer in hand, and not this one, takes it. From there on its bytes are those seen of
     -- the block.
-    pub s-fetch : (b : ℕ) (k : List ℕ → P M A) (n : ℕ) (es : List l.Step) (w : W) → G es w.seen → in_hand h w.real ≤ 1 → ((v : W) (fs : List l.Step) → Here (labelled l) (below sizes) laws (below_laws sizes l keeps) h B G w v fs → IsOutsideLog (log_of v.real).sizes b × (b < (log_of v.real).sizes.size))
+    pub s-fetch : (b : ℕ) (k : List ℕ → P M A) (n : ℕ) (es : List l.Step) (w : W) → G es w.seen → in_hand h w.real ≤ 1 → ((v : W) (fs : List l.Step) → Here (labelled sizes.version l) (below sizes) laws (below_laws sizes l keeps) h B G w v fs → IsOutsideLog (log_of v.real).sizes b × (b < (log_of v.real).sizes.size))
         → (holder_of b (log_of w.real).seats ≢ Some h) → ((v : W) (fs : List l.Step) → IsFetched h b (G fs) w v → Wp M h B Q (k (seen_of (log_of v.real) b)) n fs v)
         → Wp M h B Q (bind (fetch b) k) (suc (suc n)) es w
     unfolding premises.May
     s-fetch b k n es w stage few place free rest =
-        s-silent (labelled l) (below sizes) laws (below_laws sizes l keeps) h B (Get b) (λ a. bind (read_unless b a) k) Q G (suc n) es w stable stage
+        s-silent (labelled sizes.version l) (below sizes) laws (below_laws sizes l keeps) h B (Get b) (λ a. bind (read_unless b a) k) Q G (suc n) es w stable stage
         (λ v fs here.
         let may : premises.May h (Get b) v.real.state = (
           lt,
@@ -235,7 +235,7 @@ module _ (sizes : Super) (l : Labels) (laws : Laws (labelled l)) (keeps : Keeps 
         (may, λ x t. get_silent x b v (λ a u. Wp M h B Q (bind (read_unless b a) k) (suc n) fs (record { real = u; seen = v.seen })) here.shows may (λ ss content came quiet. by v fs here ss content came quiet)))
       where
         IsHere : W → W → List l.Step → Type 0
-        IsHere u v fs = Here (labelled l) (below sizes) laws (below_laws sizes l keeps) h B G u v fs
+        IsHere u v fs = Here (labelled sizes.version l) (below sizes) laws (below_laws sizes l keeps) h B G u v fs
 
         bytes_seen : (v : World) (bytes : List ℕ) → kept b (log_of v).seats ≡ Some bytes → seen_of (log_of v) b ≡ bytes
         bytes_seen v bytes has = ap (λ (o : Option (List ℕ)). unwrap_or o (block_at (log_of v).contents b)) has
@@ -274,7 +274,7 @@ module _ (sizes : Super) (l : Labels) (laws : Laws (labelled l)) (keeps : Keeps 
             (quiet_shows h v.real v.seen here.shows ss quiet) here.inv here.stage (came.count ∙ ap suc here.same.held))
         by v fs here ss None came quiet =
             let got_ : W = record { real = with_buffers v.real ss; seen = v.seen } in
-            s-silent (labelled l) (below sizes) laws (below_laws sizes l keeps) h B (Read b) k Q G n fs got_ stable here.stage
+            s-silent (labelled sizes.version l) (below sizes) laws (below_laws sizes l keeps) h B (Read b) k Q G n fs got_ stable here.stage
             (λ u gs here_u.
             let same : (log_of u.real).sizes ≡ (log_of v.real).sizes = here_u.same.sizes in
             let may : premises.May h (Read b) u.real.state = (
@@ -291,7 +291,7 @@ module _ (sizes : Super) (l : Labels) (laws : Laws (labelled l)) (keeps : Keeps 
         → Wp M h B Q (Do (Put b None) unmarked k) (suc n) es w
     unfolding premises.May
     s-back b k n es w stage out outside rest =
-        s-silent (labelled l) (below sizes) laws (below_laws sizes l keeps) h B (Put b None) k Q G n es w stable stage
+        s-silent (labelled sizes.version l) (below sizes) laws (below_laws sizes l keeps) h B (Put b None) k Q G n es w stable stage
         (λ v fs here.
         let may : premises.May h (Put b None) v.real.state = ((held_then h b w.real v.real (here.same.buffers b) out).0, subst (λ (s : Super). IsOutsideLog s b) (sym here.same.sizes) outside, tt) in (
           may,

@@ -1,6 +1,6 @@
 -- The reference that is left to a freed inode goes in one step.
-use Rattle.inode_machine.specs.VersionOne as one
-use Rattle.inodes_on_blocks.proofs.Vocabulary.{◌≡◌, ℕ, ◌<◌, ◌==◌, ◌&&◌, Bool, false, true, Option, Some, None, refl, sym, ◌∙◌, ap, subst, if◌then◌else◌, slice_get, SlotState, pick, Node, hart_count, ExecResult, Waits, Ran, Stops, exec_result_in, Laws, Both, Inode, TablesState, place_of, DroppedState, Counts, Dies, dead_in, dying, drop_inode, drop_at, drop_dying, drop_freed, uncounted_freed as freed_at, Freed, Forget, is_last, down_if, counted_down, Inv, load_after, BothCame, loaded, loaded_at, loaded_of, World, tables_of, Shows, Carry, Base, Labels, labelled, Keeps, forget, ActsOnce, Loaded}
+use Rattle.inode_machine.specs.Rules as rules
+use Rattle.inodes_on_blocks.proofs.Vocabulary.{◌≡◌, ℕ, ◌<◌, ◌==◌, ◌&&◌, Bool, false, true, Option, Some, None, refl, sym, ◌∙◌, ap, subst, if◌then◌else◌, slice_get, SlotState, pick, Node, hart_count, ExecResult, Waits, Ran, Stops, exec_result_in, Laws, Both, Inode, TablesState, place_of, DroppedState, Counts, Dies, dead_in, dying, drop_inode, drop_at, drop_dying, drop_freed, uncounted_freed as freed_at, Freed, Forget, is_last, down_if, counted_down, Inv, load_after, BothCame, loaded, loaded_at, loaded_of, World, tables_of, Shows, Carry, Base, Labels, labelled, Keeps, forget, ActsOnceAt, Loaded, Super}
 use Rattle.fs_machine.specs.declared.entries.Entry.{Entry}
 use Rattle.fs_machine.specs.Steps as steps
 use Rattle.fs_machine.specs.Premises as premises
@@ -37,33 +37,33 @@ freed_is h n t none = at (place_of n t.entries) none
 not_last : (n : ℕ) (w : above.World) → w.disk n ≡ None → is_last w n ≡ false
 not_last n w none = ap (λ (o : Option Node). (w.refs n == 1) && above_exec.is_dead o) none ∙ pick (w.refs n == 1) (λ t. (t && false) ≡ false) (λ _. refl) (λ _. refl)
 
-module _ (l : Labels) (laws : Laws (labelled l)) (keeps : Keeps l) (h : ℕ) (lt : h < hart_count) where
+module _ (sizes : Super) (l : Labels) (laws : Laws (labelled sizes.version l)) (keeps : Keeps l) (h : ℕ) (lt : h < hart_count) where
   abbrev W : Type 0
   W = Both World above.World
 
-  forgotten_came : (n : ℕ) (v : W) (c : Carry) → Shows v.real v.seen → Inv v.seen → Base h v.real v.seen c → one.May h (Forget n) v.seen
-      → CameTo l laws keeps h (Forget n) v ⊥ (exec_result_in (with_tables v.real) (drop_freed n (tables_of v.real))) (λ a. tt {0}) (λ a. c)
+  forgotten_came : (n : ℕ) (v : W) (c : Carry) → Shows v.real v.seen → Inv v.seen → Base h v.real v.seen c → rules.May sizes.version h (Forget n) v.seen
+      → CameTo sizes l laws keeps h (Forget n) v ⊥ (exec_result_in (with_tables v.real) (drop_freed n (tables_of v.real))) (λ a. tt {0}) (λ a. c)
   forgotten_came n v c shows inv base may =
-      subst (λ (d : ExecResult DroppedState TablesState). CameTo l laws keeps h (Forget n) v ⊥ (exec_result_in (with_tables v.real) d) (λ a. tt {0}) (λ a. c)) (sym (freed_is h n (tables_of v.real) (shows.loads.typed n may.1.2.1)))
+      subst (λ (d : ExecResult DroppedState TablesState). CameTo sizes l laws keeps h (Forget n) v ⊥ (exec_result_in (with_tables v.real) d) (λ a. tt {0}) (λ a. c)) (sym (freed_is h n (tables_of v.real) (shows.loads.typed n may.1.2.1)))
       (at (drop_inode h n (tables_of v.real))
       (subst (λ (z : Bool). BothCame (λ a last. a ≡ (if last then Dies n (loaded (tables_of v.real) n) else Counts)) (load_after n (v.seen.refs n) (loaded (tables_of v.real))) (drop_inode h n (tables_of v.real)) (down_if h n v.seen z))
-      (not_last n v.seen may.1.2.1) (references_are_dropped h n (tables_of v.real) v.seen (loaded (tables_of v.real)) shows.tables (may_die l laws keeps h lt n v shows inv (λ one. kept_old v.real v.seen shows n h base.through.new may.1.2.0) (may.1.0, may.1.1) (λ one dead. absurd (let q : false ≡ true = sym (ap (λ (o : Option Node). above_exec.is_dead o) may.1.2.1) ∙ dead in cc q))))))
+      (not_last n v.seen may.1.2.1) (references_are_dropped sizes.version h n (tables_of v.real) v.seen (loaded (tables_of v.real)) shows.tables (may_die sizes l laws keeps h lt n v shows inv (λ one. kept_old v.real v.seen shows n h base.through.new may.1.2.0) (may.1.0, may.1.1) (λ one dead. absurd (let q : false ≡ true = sym (ap (λ (o : Option Node). above_exec.is_dead o) may.1.2.1) ∙ dead in cc q))))))
     where
       at : (d : ExecResult DroppedState TablesState) → BothCame (λ a last. a ≡ (if last then Dies n (loaded (tables_of v.real) n) else Counts)) (load_after n (v.seen.refs n) (loaded (tables_of v.real))) d (down_if h n v.seen false)
-          → CameTo l laws keeps h (Forget n) v ⊥ (exec_result_in (with_tables v.real) d) (λ a. tt {0}) (λ a. c)
+          → CameTo sizes l laws keeps h (Forget n) v ⊥ (exec_result_in (with_tables v.real) d) (λ a. tt {0}) (λ a. c)
       at Waits both = absurd both
       at (Stops t) both = absurd both
       at (Ran a t) both =
-          counted_down_came l laws keeps h lt (Forget n) n v c (tt {0}) t shows base may.0 may.1.1 (λ lone. ap (λ (o : Option Node). above_exec.is_dead o) may.1.2.1) (λ lone. kept_old v.real v.seen shows n h base.through.new may.1.2.0) refl
+          counted_down_came sizes l laws keeps h lt (Forget n) n v c (tt {0}) t shows base may.0 may.1.1 (λ lone. ap (λ (o : Option Node). above_exec.is_dead o) may.1.2.1) (λ lone. kept_old v.real v.seen shows n h base.through.new may.1.2.0) refl
           (subst (λ (z : DroppedState). tables.Shows t (counted_down h n v.seen) (load_after n (v.seen.refs n) (loaded (tables_of v.real)) z)) both.0 both.1)
 
-  pub forget_acts : (n : ℕ) (m : Unit {0} → Option above.Mark) → ActsOnce l h (Forget n) m (forget n)
+  pub forget_acts : (n : ℕ) (m : Unit {0} → Option above.Mark) → ActsOnceAt sizes l h (Forget n) m (forget n)
   unfolding steps.exec premises.May premises.MayWait
   forget_acts n m =
-      one_step l laws keeps h (Forget n) m (λ c. steps.Down (Freed n)) (λ c a. tt) (λ c a. c) (λ v. tt)
+      one_step sizes l laws keeps h (Forget n) m (λ c. steps.Down (Freed n)) (λ c a. tt) (λ c a. c) (λ v. tt)
       (λ v c shows inv base may. (
-        (fewer_owed n (tables_of v.real) v.seen (loaded (tables_of v.real)) shows.tables inv h lt may.1.0, λ one. sym (shows.tables.places.holders n) ∙ last_free l laws keeps h lt n v.seen inv (some_here l laws keeps h lt n v.seen may.1.0) may.1.1 (shows.tables.places.counts n ∙ one)),
+        (fewer_owed n (tables_of v.real) v.seen (loaded (tables_of v.real)) shows.tables inv h lt may.1.0, λ one. sym (shows.tables.places.holders n) ∙ last_free sizes l laws keeps h lt n v.seen inv (some_here sizes l laws keeps h lt n v.seen may.1.0) may.1.1 (shows.tables.places.counts n ∙ one)),
         λ x t.
-            subst (λ (d : ExecResult DroppedState World). CameTo l laws keeps h (Forget n) v ⊥ d (λ a. tt {0}) (λ a. c)) (sym (in_tables_is h (steps.Down (Freed n)) v.real (λ a o. refl) (λ s. refl) (λ a l. refl) (drop_freed n (tables_of v.real))))
+            subst (λ (d : ExecResult DroppedState World). CameTo sizes l laws keeps h (Forget n) v ⊥ d (λ a. tt {0}) (λ a. c)) (sym (in_tables_is h (steps.Down (Freed n)) v.real (λ a o. refl) (λ s. refl) (λ a l. refl) (drop_freed n (tables_of v.real))))
             (forgotten_came n v c shows inv base may),
       ))

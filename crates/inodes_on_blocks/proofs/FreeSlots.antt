@@ -1,8 +1,8 @@
 -- The slot of a new name: a search finds the free slot that the node has; and the entry that is put there.
-use Rattle.inodes_on_blocks.proofs.Vocabulary.{◌≡◌, ◌≢◌, ℕ, zero, suc, ◌-◌, ◌==◌, ◌<◌, ◌≤◌, nat_lt, nat_le, ◌&&◌, not, Bool, true, false, List, [], ◌∷◌, ◌++◌, length, replicate, get_or, Option, Some, None, refl, sym, ◌∙◌, ap, arith, list_all, nat_tests, Found, IsFirst, Unused, Dirent, Used, IsBytes, u16_bytes, IsDirent, spell_dirent, entry_of, slots_with, Slot, Name, dot, dotdot, eq_not, all_used, IsName, IsText, most_slots, name_len}
+use Rattle.inodes_on_blocks.proofs.Vocabulary.{◌≡◌, ◌≢◌, ℕ, zero, suc, ◌-◌, ◌==◌, ◌<◌, ◌≤◌, nat_lt, nat_le, ◌&&◌, not, Bool, true, false, List, [], ◌∷◌, ◌++◌, length, replicate, get_or, Option, Some, None, refl, sym, ◌∙◌, ap, arith, list_all, nat_tests, Version, Found, IsFirst, Unused, Dirent, Used, IsBytes, u16_bytes, IsDirent, spell_dirent, entry_of, slots_with, Slot, Name, dot, dotdot, eq_not, all_used, IsName, IsText, name_len_of}
 use Rattle.directory.specs.Slots as sought
 use Rattle.fs_layout.specs.Name as names
-use Rattle.fs_layout.specs.VersionOne as layout
+use Rattle.image_versions.proofs.Places.{in_range}
 use Rattle.std.proofs.lemmas.List.{get_or_past}
 use Rattle.plain_tree.specs.Steps.{first_free, is_used}
 use Rattle.inodes_on_blocks.proofs.Basics.{AreRead, append_bytes, u16s}
@@ -102,9 +102,9 @@ module _ (slots : List (Option Slot)) (read : ℕ → Option Dirent) (are : AreR
   none_left first = all_are slots (all_before (length slots) (omega arith) first)
 
   -- there is one, or room after them
-  pub some_left : (o : Option Found) → IsFirst Unused read (length slots) o → slot_of slots o < most_slots → ((length slots == most_slots) && all_used slots) ≡ false
-  some_left None first lt = ap (λ (b : Bool). b && all_used slots) (eq_not (length slots) most_slots (λ e. absurd (omega (arith, e, lt))))
-  some_left (Some f) first lt = by (length slots == most_slots) (some_isnt slots f.slot first.0 (turned_off (is_used (get_or slots f.slot None)) (sym (is_so f.slot first.0) ∙ first.1)))
+  pub some_left : (most : ℕ) (o : Option Found) → IsFirst Unused read (length slots) o → slot_of slots o < most → ((length slots == most) && all_used slots) ≡ false
+  some_left most None first lt = ap (λ (b : Bool). b && all_used slots) (eq_not (length slots) most (λ e. absurd (omega (arith, e, lt))))
+  some_left most (Some f) first lt = by (length slots == most) (some_isnt slots f.slot first.0 (turned_off (is_used (get_or slots f.slot None)) (sym (is_so f.slot first.0) ∙ first.1)))
     where
       by : (b : Bool) → all_used slots ≡ false → (b && all_used slots) ≡ false
       by true e = e
@@ -120,26 +120,28 @@ text_layout (b ∷ bs) t =
     let apart : (b == 47) ≡ false = eq_not b 47 t.1 in
     rw (some, apart) (text_layout bs t.3)
 
-name_layout : (e : Name) → IsName e → layout.is_name e ≡ true
-name_layout e is =
+name_layout : (version : Version) (e : Name) → IsName version e → names.is_name version e ≡ true
+name_layout version e is =
     let some : nat_lt 0 (length e) ≡ true = (let z = is.some in grind (arith, nat_tests, z)) in
-    let fits : nat_le (length e) name_len ≡ true = (let z = is.fits in grind (arith, nat_tests, z)) in
+    let fits : nat_le (length e) (name_len_of version) ≡ true = (let z = is.fits in grind (arith, nat_tests, z)) in
     rw (some, fits) (text_layout e is.text)
 
 -- an entry by a name that an entry can have
-pub entry_is : (q : ℕ) (e : Name) → 1 ≤ q → q < 65536 → IsName e → IsDirent (Used q e)
-entry_is q e low high is = ((λ z. absurd (omega (arith, z, low))), omega (arith, high), name_layout e is)
+pub entry_is : (version : Version) (q : ℕ) (e : Name) → 1 ≤ q → q < 65536 → IsName version e → IsDirent version (Used q e)
+entry_is version q e low high is = ((λ z. absurd (omega (arith, z, low))), omega (arith, high), name_layout version e is)
 
 text_bytes : (e : List ℕ) → IsText e → IsBytes e
 text_bytes [] t i = omega arith
 text_bytes (b ∷ bs) t zero = t.2
 text_bytes (b ∷ bs) t (suc i) = text_bytes bs t.3 i
 
-pub entry_bytes : (q : ℕ) (e : Name) → IsName e → IsBytes (spell_dirent (Used q e))
-entry_bytes q e is = append_bytes (u16_bytes q) (e ++ replicate (name_len - length e) 0) (u16s q) (append_bytes e (replicate (name_len - length e) 0) (text_bytes e is.text) (zero_bytes (name_len - length e)))
+pub entry_bytes : (version : Version) (q : ℕ) (e : Name) → IsName version e → IsBytes (spell_dirent version (Used q e))
+entry_bytes version q e is =
+    append_bytes (u16_bytes q) (e ++ replicate (name_len_of version - length e) 0) (u16s q)
+    (append_bytes e (replicate (name_len_of version - length e) 0) (text_bytes e is.text) (zero_bytes (name_len_of version - length e)))
 
-pub dot_name : IsName dot
-dot_name = record { some = omega arith; fits = omega arith; text = (omega arith, (λ e. absurd (omega (arith, e))), omega arith, tt) }
+pub dot_name : (version : Version) → IsName version dot
+dot_name version = record { some = omega arith; fits = (let wide = (in_range version).0 in omega (arith, wide)); text = (omega arith, (λ e. absurd (omega (arith, e))), omega arith, tt) }
 
-pub dotdot_name : IsName dotdot
-dotdot_name = record { some = omega arith; fits = omega arith; text = (omega arith, (λ e. absurd (omega (arith, e))), omega arith, (omega arith, (λ e. absurd (omega (arith, e))), omega arith, tt)) }
+pub dotdot_name : (version : Version) → IsName version dotdot
+dotdot_name version = record { some = omega arith; fits = (let wide = (in_range version).0 in omega (arith, wide)); text = (omega arith, (λ e. absurd (omega (arith, e))), omega arith, (omega arith, (λ e. absurd (omega (arith, e))), omega arith, tt)) }

@@ -1,6 +1,6 @@
 -- An inode without links is freed: its content is given back, and its record goes into its block without that. Then
 -- the record is put once more without a type, and with this the operation acts.
-use Rattle.inode_machine.specs.VersionOne as one
+use Rattle.inode_machine.specs.Rules as rules
 use Rattle.inodes_on_blocks.proofs.Vocabulary.{◌≡◌, ◌≢◌, ℕ, suc, ◌<◌, false, List, [], length, Option, Some, None, refl, sym, ◌∙◌, ap, subst, arith, Super, Dinode, IsDinode, IsOutsideLog, has, HasRoom, Node, hart_count, bind, once, Laws, Machine, P, Wp, Both, joined, Below, Lasts, Handover, Here, ToAct, to_act, may_act, Stable, bind-assoc, Wp-more, lock_holder, LogPart, put_block, fetch, seen_of, without_content, freed, inode_block, put_inode, with_dinode, store_inode, Inv, Idle, more, Owners, World, log_of, tables_of, disk_of, owners_of, KeepsRoom, world_with, in_hand, HasBuffer, IsFetched, Emptied, Carry, Stands, below, Labels, labelled, Keeps, IsThrough, CanPut, IsChanging, Shows, record_in, put_record, had_in, block_len}
 use Rattle.inodes_on_blocks.proofs.Basics.{freed_held, buffer_then, buffer_seen, s-fetch, below_laws, lent_then, through_then, through_put, empty_hand, after, lock_range, quiet_owners, Ready, inode_home, untaken, place_in, can_record, others_then, none_then, named_then, open_same}
 use Rattle.inode_machine.specs.World as above
@@ -15,23 +15,23 @@ use Rattle.inodes_on_blocks.proofs.StoreSteps.{PutsRecord, record_acts}
 freed_fits : (d : Dinode) → IsDinode d → IsDinode (freed d)
 freed_fits d is = record { kind = omega arith; major = is.major; minor = is.minor; nlink = is.nlink; size = is.size; thirteen = is.thirteen; addrs = is.addrs }
 
-module _ (sizes : Super) (l : Labels) (laws : Laws (labelled l)) (keeps : Keeps l) (h : ℕ) (lt : h < hart_count) where
+module _ (sizes : Super) (l : Labels) (laws : Laws (labelled sizes.version l)) (keeps : Keeps l) (h : ℕ) (lt : h < hart_count) where
   abbrev W : Type 0
   W = Both World above.World
 
   abbrev M : Machine
-  M = joined (labelled l) (below sizes)
+  M = joined (labelled sizes.version l) (below sizes)
 
   -- ---- a record stored on the way
 
   module _ (n : ℕ) (Knows : World → Type 0) (room : KeepsRoom h (inode_block sizes.inodestart n) Knows Knows) (B : List l.Step → Type 0) {A : Type 0} (c : Carry) (d : Dinode) (is : IsDinode d) (o : Option Node) (k : P M A) (j : ℕ) (Q : A → List l.Step → W → Type 0)
-      (G : List l.Step → above.World → Type 0) (stable : Stable (labelled l) (below sizes) laws (below_laws sizes l keeps) h B G) (changing : (fs : List l.Step) (g : above.World) → G fs g → Inv g → IsChanging h n g)
+      (G : List l.Step → above.World → Type 0) (stable : Stable (labelled sizes.version l) (below sizes) laws (below_laws sizes l keeps) h B G) (changing : (fs : List l.Step) (g : above.World) → G fs g → Inv g → IsChanging h n g)
       (rest : (y : W) (gs : List l.Step) → G gs y.seen → Knows y.real → Ready sizes h (HasNone h n c o) y.real y.seen → Wp M h B Q k j gs y) where
     abbrev b : ℕ
     b = inode_block sizes.inodestart n
 
     abbrev IsHere : W → W → List l.Step → Type 0
-    IsHere w v fs = Here (labelled l) (below sizes) laws (below_laws sizes l keeps) h B G w v fs
+    IsHere w v fs = Here (labelled sizes.version l) (below sizes) laws (below_laws sizes l keeps) h B G w v fs
 
     abbrev IsPutting : (at : ℕ) → List ℕ → List l.Step → W → Type 0
     IsPutting at bytes gs u = Putting sizes l laws keeps h lt B Q G stable n at bytes (λ _. k) j gs u
@@ -78,9 +78,9 @@ module _ (sizes : Super) (l : Labels) (laws : Laws (labelled l)) (keeps : Keeps 
     puts : (x v u : W) (fs gs : List l.Step) → Ready sizes h (HasNone h n c o) x.real x.seen → Knows x.real → IsFetched h b (G fs) x v → IsHere v u gs → IsPutting b (with_dinode n d (seen_of (log_of v.real) b)) gs u
     puts x v u fs gs ready knows got here =
         let changes = changing gs u.seen here.stage here.inv in
-        let middle = none_lasts h n c o x.real v.real x.seen v.seen got.since.inodes got.since.no_more got.kept ready.lent ready.this in
+        let middle = none_lasts h n c o x.real v.real x.seen v.seen got.since.sizes got.since.inodes got.since.no_more got.kept ready.lent ready.this in
         let lent = lent_then h x.seen v.seen got.kept ready.lent in
-        let this = none_lasts h n c o v.real u.real v.seen u.seen here.same.inodes here.same.no_more here.kept lent middle in
+        let this = none_lasts h n c o v.real u.real v.seen u.seen here.same.sizes here.same.inodes here.same.no_more here.kept lent middle in
         let where_ : b ≡ place_in n u.real = ap (λ (s : Super). inode_block s.inodestart n) (sym (here.same.sizes ∙ got.since.sizes ∙ ready.at)) in
         let buffer = buffer_then h b (seen_of (log_of v.real) b) v.real u.real (here.same.buffers b) got.buffer in
         let bytes : seen_of (log_of u.real) (place_in n u.real) ≡ seen_of (log_of v.real) b = ap (seen_of (log_of u.real)) (sym where_) ∙ buffer_seen h b (seen_of (log_of v.real) b) u.real buffer in
@@ -110,8 +110,8 @@ module _ (sizes : Super) (l : Labels) (laws : Laws (labelled l)) (keeps : Keeps 
 
   pub free_acts : (n : ℕ) (m : Unit {0} → Option above.Mark) (Knows : World → Type 0) → KeepsRoom h sizes.bmapstart Knows Knows → KeepsRoom h (inode_block sizes.inodestart n) Knows Knows
       → (c : Carry) (B : List l.Step → Type 0) (C : Unit {0} → List l.Step → above.World → Type 0) (es : List l.Step) (w : W)
-      → Lasts (labelled l) h B C → Wp (labelled l) h B C (once (Free n) m) (suc (more (Free n))) es w.seen → Stands sizes h w.real w.seen c → Knows w.real
-      → Wp M h B (Below (labelled l) (below sizes) h C) (free sizes n c m) (suc (more (Free n))) es w
+      → Lasts (labelled sizes.version l) h B C → Wp (labelled sizes.version l) h B C (once (Free n) m) (suc (more (Free n))) es w.seen → Stands sizes h w.real w.seen c → Knows w.real
+      → Wp M h B (Below (labelled sizes.version l) (below sizes) h C) (free sizes n c m) (suc (more (Free n))) es w
   free_acts n m Knows room record_room c B C es w lasts todo stands knows =
       Wp-more M h (free sizes n c m) B Q (content_steps (suc (suc (suc 3)))) (suc (more (Free n))) es w (omega arith)
       (s-none sizes l laws keeps h lt n Knows room B c stored 6 Q Todo todo_stays changing es w tt todo stands knows
@@ -119,20 +119,20 @@ module _ (sizes : Super) (l : Labels) (laws : Laws (labelled l)) (keeps : Keeps 
       s-stored n Knows record_room B c d begin_.fits (u.seen.disk n) last 3 Q Todo todo_stays changing
       (λ y hs stage_y knows_y ready_y.
       record_acts sizes l laws keeps h lt n (Free n) m tt (freed d) Emptied c (λ z. tt) (HasNone h n c (u.seen.disk n)) (none_lasts h n c (u.seen.disk n)) (λ r g has. has.others)
-      (λ z shows inv_z may has. puts u begin_ z shows may has) Knows record_room.gives B C lasts hs y stage_y ready_y knows_y)
+      (λ z at shows inv_z may has. puts u begin_ z at shows may has) Knows record_room.gives B C lasts hs y stage_y ready_y knows_y)
       gs x stage_x ready knows_x))
     where
       d : Dinode
       d = without_content (record_in c n)
 
       Q : Handover (Unit {0}) Carry → List l.Step → W → Type 0
-      Q = Below (labelled l) (below sizes) h C
+      Q = Below (labelled sizes.version l) (below sizes) h C
 
       Todo : List l.Step → above.World → Type 0
-      Todo = ToAct (labelled l) (below sizes) laws (below_laws sizes l keeps) h B (Free n) m C lasts
+      Todo = ToAct (labelled sizes.version l) (below sizes) laws (below_laws sizes l keeps) h B (Free n) m C lasts
 
-      todo_stays : Stable (labelled l) (below sizes) laws (below_laws sizes l keeps) h B Todo
-      todo_stays = to_act (labelled l) (below sizes) laws (below_laws sizes l keeps) h B (Free n) m C lasts
+      todo_stays : Stable (labelled sizes.version l) (below sizes) laws (below_laws sizes l keeps) h B Todo
+      todo_stays = to_act (labelled sizes.version l) (below sizes) laws (below_laws sizes l keeps) h B (Free n) m C lasts
 
       last : P M (Handover (Unit {0}) Carry)
       last = bind (fetch (inode_block sizes.inodestart n)) (put_record (Free n) m tt (inode_block sizes.inodestart n) n (freed d) Emptied c)
@@ -142,10 +142,10 @@ module _ (sizes : Super) (l : Labels) (laws : Laws (labelled l)) (keeps : Keeps 
 
       changing : (fs : List l.Step) (g : above.World) → Todo fs g → Inv g → IsChanging h n g
       changing fs g stage inv =
-          let may = may_act (labelled l) (below sizes) laws (below_laws sizes l keeps) h B (Free n) m C lasts fs g stage inv in record { lock = may.1.0.0; joined = may.1.0.1 }
+          let may = may_act (labelled sizes.version l) (below sizes) laws (below_laws sizes l keeps) h B (Free n) m C lasts fs g stage inv in record { lock = may.1.0.0; joined = may.1.0.1 }
 
-      puts : (u : W) → Begins sizes l laws keeps h lt n (had_in c n) (u.seen.disk n) u.real u.seen → (z : W) → Shows z.real z.seen → one.May h (Free n) z.seen → HasNone h n c (u.seen.disk n) z.real z.seen → PutsRecord h (Free n) n tt (freed d) Emptied z.real z.seen
-      puts u begin_ z shows may has = record {
+      puts : (u : W) → Begins sizes l laws keeps h lt n (had_in c n) (u.seen.disk n) u.real u.seen → (z : W) → (log_of z.real).sizes ≡ sizes → Shows z.real z.seen → rules.May sizes.version h (Free n) z.seen → HasNone h n c (u.seen.disk n) z.real z.seen → PutsRecord sizes.version h (Free n) n tt (freed d) Emptied z.real z.seen
+      puts u begin_ z at shows may has = record {
         node = None;
         ran = refl;
         closed = λ w. tt;

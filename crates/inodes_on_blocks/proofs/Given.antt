@@ -44,7 +44,7 @@ bind-end (Ret a) = refl
 bind-end (Do op m k) = λ i. Do op m (λ a. bind-end (k a) i)
 
 abbrev M : Super → Machine
-M sizes = joined whole (below sizes)
+M sizes = joined (whole sizes.version) (below sizes)
 
 -- what holds at its end
 abbrev Ends : (sizes : Super) (h n b : ℕ) → Spent → Both World above.World → Unit {0} → List Done → Both World above.World → Type 0
@@ -53,7 +53,7 @@ Ends sizes h n b s w a es x = (es ≡ []) × Gave h n b (IsChanging h n) w x × 
 pub blocks_are_given_back : BlocksAreGivenBack
 blocks_are_given_back sizes h n b s w lt is keeps free mine block own few untouched has few_spent spent =
     subst (λ (p : P (M sizes) (Unit {0})). Wp (M sizes) h (λ es. es ≡ []) (Ends sizes h n b s w) p 3 [] w) (bind-end (free_block sizes.bmapstart b))
-    (s-give sizes alone alone_laws alone_keeps h lt (λ es. es ≡ []) (Ends sizes h n b s w) (Changing h n) (λ fs xs g u o i c. (λ y. inl o.0, stays h n xs fs g u o c)) n (λ fs g c i. c.is) b block
+    (s-give sizes alone (alone_laws sizes.version) alone_keeps h lt (λ es. es ≡ []) (Ends sizes h n b s w) (Changing h n) (λ fs xs g u o i c. (λ y. inl o.0, stays h n xs fs g u o c)) n (λ fs g c i. c.is) b block
     (HasSpent sizes h s) (HasSpent sizes h s) (spent_gives sizes h sizes.bmapstart s (inr (has, refl)) few_spent) (λ a. Ret a) 0 [] w (record { none = refl; is = is; keeps = keeps; free = free }) few untouched spent.0 mine own spent
     (λ x gs gave left. (gave.stage.none, record { since = gave.since; kept = gave.kept; shows = gave.shows; inv = gave.inv; stage = gave.stage.is; held = gave.held }, left)))
 
@@ -64,7 +64,7 @@ AllGone sizes h n s w a es x =
 pub numbers_are_given_back : NumbersAreGivenBack
 numbers_are_given_back sizes h n numbers s w lt is keeps free mine owns named few untouched has few_spent spent =
     Wp-more (M sizes) h (free_numbers sizes.bmapstart numbers (Ret (tt {0}))) (λ es. es ≡ []) (AllGone sizes h n s w) (3 * length numbers + 0) (3 * length numbers) [] w (omega arith)
-    (s-numbers sizes alone alone_laws alone_keeps h lt (λ es. es ≡ []) (AllGone sizes h n s w) (Changing h n) (λ fs xs g u o i c. (λ y. inl o.0, stays h n xs fs g u o c)) n (λ fs g c i. c.is)
+    (s-numbers sizes alone (alone_laws sizes.version) alone_keeps h lt (λ es. es ≡ []) (AllGone sizes h n s w) (Changing h n) (λ fs xs g u o i c. (λ y. inl o.0, stays h n xs fs g u o c)) n (λ fs g c i. c.is)
     (λ more. HasSpent sizes h s) (λ more. spent_gives sizes h sizes.bmapstart s (inr (has, refl)) few_spent) (λ more v known. known) w numbers [] (Ret (tt {0})) 0 [] w
     (record {
       stage = record { none = refl; is = is; keeps = keeps; free = free };

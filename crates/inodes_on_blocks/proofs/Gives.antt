@@ -368,17 +368,17 @@ module _ (h c : ℕ) (t : TablesState) (w : World) (load : ℕ → Option Loaded
 
 pub directories_are_given : DirectoriesAreGiven
 unfolding give_next
-directories_are_given h c t w load shows inv runs asks =
+directories_are_given version h c t w load shows inv runs asks =
     both_ran (λ a b. a ≡ given.Directory b) (λ a. load) (give_by h c t (next_full descriptor_count (descriptors_of (slice_get t.desks h)))) (Ran (w.desks c).directory (moved_in w h c)) (given.Directory (w.desks c).directory) (w.desks c).directory _ (moved_in w h c)
     (ap (give_by h c t) (next_same h c t w load shows inv runs asks.0.0 asks.0.1 descriptor_count (omega arith) ∙ next_past descriptor_count (w.desks h).fds (omega arith)) ∙ given_is h c t w load shows inv runs asks.0.0 asks.0.1 asks.1)
     refl refl (shown_moved h c t w load shows inv runs asks.0.0 asks.0.1 asks.1)
 
 pub children_are_released : ChildrenAreReleased
-children_are_released h c t w load shows inv runs asks = shown_released h c t w load shows inv runs asks.0.0 asks.0.1 asks.1
+children_are_released version h c t w load shows inv runs asks = shown_released h c t w load shows inv runs asks.0.0 asks.0.1 asks.1
 
 pub descriptors_are_given : DescriptorsAreGiven
 unfolding give_next
-descriptors_are_given h c from t w load shows inv runs asks le = at (next_used from (w.desks h).fds) refl
+descriptors_are_given version h c from t w load shows inv runs asks le = at (next_used from (w.desks h).fds) refl
   where
     none : (j : ℕ) → j < descriptor_count → (w.desks c).fds j ≡ None
     none = (subst (λ (z : Option ℕ). Has z (w.desks c).fds (w.all.cwd c) (w.desks c).directory (w.desks h).directory) asks.1 (inv.lent c h asks.0.0 asks.0.1).has).0

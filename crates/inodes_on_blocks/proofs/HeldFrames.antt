@@ -1,5 +1,6 @@
 -- What an inode and its blocks say stays if these do.
-use Rattle.inodes_on_blocks.proofs.Vocabulary.{◌≡◌, ◌≢◌, ⊎_elim, ℕ, zero, suc, ◌+◌, ◌*◌, ◌/◌, ◌%◌, ◌<◌, ◌≤◌, false, inl, inr, refl, sym, ◌∙◌, ap, subst, arith, List, [], ◌∷◌, ◌++◌, length, take, get_or, slice_index, filter, Option, Some, None, nat_lt, if◌then◌else◌, All, Contains, cases_eq, Super, Dinode, Dirent, u32s_at, dirent_at, recovered, sizes_of, Node, NodeKind, Directory, File, Device, IsOnce, inode_of, is_free, is_block, numbers_of, numbers_by, block_number, content_block, blocks_for, front_blocks, slot_on as slot_at, first_slots, IsData, numbers_by_node, numbers_without, numbers_with, All-addrs, numbers_by_free, either, IsRecord, HasContent, HasContentOf, IsOwned, HoldsAt, NamesOwned, IsPut, IsUntouched, IsLaidOut, IsSpare, Becomes, slot_by, first_slots_by, block_len, direct, dirent_len, dirents_per_block, numbers_per_block}
+use Rattle.inodes_on_blocks.proofs.Vocabulary.{◌≡◌, ◌≢◌, ⊎_elim, ℕ, zero, suc, ◌+◌, ◌*◌, ◌/◌, ◌%◌, ◌<◌, ◌≤◌, false, inl, inr, refl, sym, ◌∙◌, ap, subst, arith, List, [], ◌∷◌, ◌++◌, length, take, get_or, slice_index, filter, Option, Some, None, nat_lt, if◌then◌else◌, All, Contains, cases_eq, Super, Version, Dinode, Dirent, u32s_at, dirent_at, recovered, sizes_of, version_in, Node, NodeKind, Directory, File, Device, IsOnce, inode_of, is_free, is_block, numbers_of, numbers_by, block_number, content_block, blocks_for, front_blocks, IsData, numbers_by_node, numbers_without, numbers_with, All-addrs, numbers_by_free, either, map, entry_of, IsInode, IsRecord, HasContent, HasContentOf, IsOwned, HoldsAt, NamesOwned, IsPut, IsUntouched, IsLaidOut, IsSpare, Becomes, slot_by as slot_at, first_slots_by as first_slots, block_len, direct, dirent_len_of, dirents_per_block_of, numbers_per_block}
+use Rattle.image_versions.proofs.Places.{in_their_content}
 use Rattle.inodes_on_blocks.specs.Holds.{HasRoom}
 use Rattle.inodes_on_blocks.proofs.Held.{inode_used}
 use Rattle.inodes_on_blocks.proofs.ImageNodes.{at_index}
@@ -10,27 +11,31 @@ block_of disk d k = refl
 
 -- ---- the same content
 
-module _ (disk new : List (List ℕ)) (d e : Dinode) (size : e.size ≡ d.size) (blocks : (k : ℕ) → block_len * k < d.size → content_block new e k ≡ content_block disk d k) where
+module _ (disk new : List (List ℕ)) (d e : Dinode) (sizes : sizes_of new ≡ sizes_of disk) (size : e.size ≡ d.size) (blocks : (k : ℕ) → block_len * k < d.size → content_block new e k ≡ content_block disk d k) where
   front_same : (n : ℕ) → n ≤ blocks_for d.size → front_blocks new e n ≡ front_blocks disk d n
   unfolding front_blocks
   front_same zero h = refl
   front_same (suc n) h =
       ap (λ (xs : List ℕ). xs ++ content_block new e n) (front_same n (omega arith)) ∙ ap (λ (xs : List ℕ). front_blocks disk d n ++ xs) (blocks n (omega arith))
 
-  slot_same : (s : ℕ) → s < d.size / dirent_len → slot_at new e s ≡ slot_at disk d s
-  unfolding slot_by
-  slot_same s h = ap (dirent_at (s % dirents_per_block)) (blocks (s / dirents_per_block) (omega arith))
+  abbrev version : Version
+  version = version_in disk
 
-  slots_same : (n : ℕ) → n ≤ d.size / dirent_len → first_slots new e n ≡ first_slots disk d n
-  unfolding first_slots_by
+  slot_same : (s : ℕ) → s < d.size / dirent_len_of version → slot_at version new e s ≡ slot_at version disk d s
+  unfolding slot_at
+  slot_same s h = ap (dirent_at version (s % dirents_per_block_of version)) (blocks (s / dirents_per_block_of version) (in_their_content version s d.size h).1)
+
+  slots_same : (n : ℕ) → n ≤ d.size / dirent_len_of version → first_slots version new e n ≡ first_slots version disk d n
+  unfolding first_slots
   slots_same zero h = refl
   slots_same (suc n) h =
-      ap (λ (xs : List (Option Dirent)). xs ++ slot_at new e n ∷ []) (slots_same n (omega arith))
-      ∙ ap (λ (x : Option Dirent). first_slots disk d n ++ x ∷ []) (slot_same n (omega arith))
+      ap (λ (xs : List (Option Dirent)). xs ++ slot_at version new e n ∷ []) (slots_same n (omega arith))
+      ∙ ap (λ (x : Option Dirent). first_slots version disk d n ++ x ∷ []) (slot_same n (omega arith))
 
   pub content_same : (k : NodeKind) → HasContent disk d k → HasContent new e k
-  content_same (Directory slots) h = ap (λ (n : ℕ). first_slots new e (n / dirent_len)) size
-      ∙ slots_same (d.size / dirent_len) (omega arith) ∙ h
+  content_same (Directory slots) h =
+      subst (λ (s : Super). first_slots s.version new e (e.size / dirent_len_of s.version) ≡ map entry_of slots) (sym sizes)
+      (ap (λ (n : ℕ). first_slots version new e (n / dirent_len_of version)) size ∙ slots_same (d.size / dirent_len_of version) (omega arith) ∙ h)
   content_same (File bytes) h =
       ap (λ (n : ℕ). take n (front_blocks new e (blocks_for n))) size ∙ ap (take d.size) (front_same (blocks_for d.size) (omega arith)) ∙ h
   content_same (Device major minor s) h = h
@@ -50,9 +55,9 @@ module _ (disk new : List (List ℕ)) (d : Dinode) (all : All (λ b. b ≢ 0 →
       numbers_with new d ne ∙ ap (λ (block : List ℕ). d.addrs ++ u32s_at numbers_per_block block 0) same ∙ sym (numbers_with disk d ne))
       (cases_eq (slice_index d.addrs direct) 0)
 
-  pub content_kept : ((k : ℕ) → block_len * k < d.size → block_number (numbers_of disk d) k ≢ 0) → (k : NodeKind) → HasContent disk d k → HasContent new d k
-  content_kept there =
-      content_same disk new d d refl
+  pub content_kept : sizes_of new ≡ sizes_of disk → ((k : ℕ) → block_len * k < d.size → block_number (numbers_of disk d) k ≢ 0) → (k : NodeKind) → HasContent disk d k → HasContent new d k
+  content_kept sizes there =
+      content_same disk new d d sizes refl
       (λ k l.
       block_of new d k
       ∙ ap (λ (ns : List ℕ). recovered new (block_number ns k)) numbers_kept
@@ -84,15 +89,15 @@ module _ (disk new : List (List ℕ)) (owner owner' : ℕ → ℕ) (i : ℕ) (v 
         ∙ sym (numbers_by_node disk i used)
   ]
 
-  content_of_node : (o : Option Node) → IsRecord (inode_of disk i) o → HasContentOf disk (inode_of disk i) o → HasContentOf new (inode_of disk i) o
+  content_of_node : (o : Option Node) → IsRecord (version_in disk) (inode_of disk i) o → HasContentOf disk (inode_of disk i) o → HasContentOf new (inode_of disk i) o
   content_of_node None is content = tt
   content_of_node (Some node) is content =
-      let used = inode_used (inode_of disk i) node is in
-      content_kept disk new (inode_of disk i) (used_same used) (h.room used).there node.kind content
+      let used = inode_used (version_in disk) (inode_of disk i) node is in
+      content_kept disk new (inode_of disk i) (used_same used) left.sizes (h.room used).there node.kind content
 
   pub untouched : HoldsAt new owner' i v
   untouched = record {
-    inode = subst (λ (x : Dinode). IsRecord x v) (sym left.inode) h.inode;
+    inode = subst (λ (s : Super). IsRecord s.version (inode_of new i) v) (sym left.sizes) (subst (λ (x : Dinode). IsRecord (version_in disk) x v) (sym left.inode) h.inode);
     content = subst (λ (x : Dinode). HasContentOf new x v) (sym left.inode) (content_of_node v h.inode h.content);
     room = λ used.
         let was : is_free (inode_of disk i) ≡ false = ap is_free (sym left.inode) ∙ used in
@@ -122,8 +127,8 @@ module _ (disk new : List (List ℕ)) (owner owner' : ℕ → ℕ) (i : ℕ) (d 
   laid_kept =
       let numbers = numbers_kept disk new d same in
       record {
-        inode = h.inode;
-        content = content_kept disk new d same h.room.there v.kind h.content;
+        inode = subst (λ (s : Super). IsInode s.version d v) (sym sizes) h.inode;
+        content = content_kept disk new d same sizes h.room.there v.kind h.content;
         room = room_kept disk new d same h.room;
         owned =
             subst (All (λ c. c ≢ 0 → IsOwned new owner' i c)) (sym numbers)

@@ -1,5 +1,6 @@
 -- The checks of inodes pass: types, the root, sizes, and counts.
-use Rattle.inodes_on_blocks.proofs.Vocabulary.{◌≡◌, ◌≤◌, ℕ, ◌*◌, ◌%◌, true, false, ℤ, pos, negsuc, inl, inr, sym, ◌∙◌, ap, subst, arith, rules, List, length, map, Option, Some, nat_lt, ◌<ℤ◌, false≢true, eqb-true, nat_tests, length-map, Dinode, sizes_of, Node, NodeKind, Directory, File, Device, inode_of, is_number, is_positive, is_directory, is_live, is_node, is_live_directory, slots_of, IsGoodType, HasGoodTypes, HasRoot, HasGoodSizes, HasGoodCounts, directory_is, directory_from, node_is, links_of, IsForest, either, Nodes, type_in, size_in, IsUnused, IsRecord, HasContent, entry_of, dirent_len}
+use Rattle.inodes_on_blocks.proofs.Vocabulary.{◌≡◌, ◌≤◌, ℕ, ◌*◌, ◌%◌, true, false, ℤ, pos, negsuc, inl, inr, sym, ◌∙◌, ap, subst, arith, rules, List, length, map, Option, Some, nat_lt, ◌<ℤ◌, false≢true, eqb-true, nat_tests, length-map, Dinode, version_in, sizes_of, Node, NodeKind, Directory, File, Device, inode_of, is_number, is_positive, is_directory, is_live, is_node, is_live_directory, slots_of, IsGoodType, HasGoodTypes, HasRoot, HasGoodSizes, HasGoodCounts, directory_is, directory_from, node_is, links_of, IsForest, either, Nodes, type_in, size_in, IsUnused, IsRecord, HasContent, entry_of, dirent_len_of}
+use Rattle.image_versions.proofs.Places.{count_slots, lie_apart}
 use Rattle.plain_tree.specs.Tree as plain
 use Rattle.inodes_on_blocks.proofs.HeldParts.{HoldsRecords, HoldsContents, HaveRoom}
 use Rattle.inodes_on_blocks.proofs.ImageSlots.{Entries, in_tree}
@@ -21,7 +22,7 @@ good_type d (Device major minor size) n e c = rw (e, c) (search rules, search ru
 
 pub good_types : (disk : List (List ℕ)) (nodes : Nodes) → HoldsRecords disk nodes → HasGoodTypes disk
 good_types disk nodes records i low bound = elim (some_or (nodes i)) [
-  | inl none ↦ unused_type (inode_of disk i) (subst (IsRecord (inode_of disk i)) none (records.record_of i low bound))
+  | inl none ↦ unused_type (inode_of disk i) (subst (IsRecord (version_in disk) (inode_of disk i)) none (records.record_of i low bound))
   | inr some ↦ let d = inode_at disk nodes records i some.0 some.1 in good_type (inode_of disk i) some.0.kind some.0.count d.kind d.count
 ]
 
@@ -42,20 +43,17 @@ spelled_as disk d (Directory slots) h content = content ∙ ap (map entry_of) (s
 spelled_as disk d (File bytes) h content = absurd (false≢true h)
 spelled_as disk d (Device major minor size) h content = absurd (false≢true h)
 
-slots_sized : (disk : List (List ℕ)) (d : Dinode) (k : NodeKind) → plain.is_directory k ≡ true → HasContent disk d k → size_in k ≡ dirent_len * length (slots_of disk d)
-slots_sized disk d (Directory slots) h content = ap (λ (n : ℕ). dirent_len * n) (sym (ap length content ∙ length-map slots entry_of))
+slots_sized : (disk : List (List ℕ)) (d : Dinode) (k : NodeKind) → plain.is_directory k ≡ true → HasContent disk d k → size_in (version_in disk) k ≡ dirent_len_of (version_in disk) * length (slots_of disk d)
+slots_sized disk d (Directory slots) h content = ap (λ (n : ℕ). dirent_len_of (version_in disk) * n) (sym (ap length content ∙ length-map slots entry_of))
 slots_sized disk d (File bytes) h content = absurd (false≢true h)
 slots_sized disk d (Device major minor size) h content = absurd (false≢true h)
-
-whole_slots : (n : ℕ) → (dirent_len * n) % dirent_len ≡ 0
-whole_slots n = omega arith
 
 pub are_spelled : (disk : List (List ℕ)) (nodes : Nodes) → HoldsRecords disk nodes → HoldsContents disk nodes → AreSpelled disk
 are_spelled disk nodes records contents i live =
     let is = directory_is disk i live in
     let some = node_of_inode disk nodes records i (directory_node disk i live) is.live in
     let here = slots_of_directory disk i live in
-    let directory : plain.is_directory some.0.kind ≡ true = sym (inode_directory (inode_of disk i) some.0 (inode_at disk nodes records i some.0 some.1)) ∙ is.directory in
+    let directory : plain.is_directory some.0.kind ≡ true = sym (inode_directory (version_in disk) (inode_of disk i) some.0 (inode_at disk nodes records i some.0 some.1)) ∙ is.directory in
     here ∙ spelled_as disk (inode_of disk i) some.0.kind directory (contents.content i some.0 some.1) ∙ ap (λ (es : Entries). map entry_of (in_tree es)) (sym here)
 
 module _ (disk : List (List ℕ)) (nodes : Nodes) (records : HoldsRecords disk nodes) (contents : HoldsContents disk nodes)
@@ -71,16 +69,17 @@ module _ (disk : List (List ℕ)) (nodes : Nodes) (records : HoldsRecords disk n
   -- ---- sizes
 
   slots_fit : (i : ℕ) → is_live_directory disk i ≡ true
-      → (2 * dirent_len ≤ (inode_of disk i).size) × ((inode_of disk i).size % dirent_len ≡ 0)
+      → (2 * dirent_len_of (version_in disk) ≤ (inode_of disk i).size) × ((inode_of disk i).size % dirent_len_of (version_in disk) ≡ 0)
   slots_fit i here =
       let at = directory_is disk i here in
       let some = node_of_inode disk nodes records i (directory_node disk i here) at.live in
       let v = some.0 in
       let d = inode_at disk nodes records i v some.1 in
-      let many : (inode_of disk i).size ≡ dirent_len * length (slots_of disk (inode_of disk i)) =
-      d.size ∙ slots_sized disk (inode_of disk i) v.kind (sym (inode_directory (inode_of disk i) v d) ∙ at.directory) (contents.content i v some.1) in
+      let many : (inode_of disk i).size ≡ dirent_len_of (version_in disk) * length (slots_of disk (inode_of disk i)) =
+      d.size ∙ slots_sized disk (inode_of disk i) v.kind (sym (inode_directory (version_in disk) (inode_of disk i) v d) ∙ at.directory) (contents.content i v some.1) in
       let two = ap length (sym (slots_of_directory disk i here) ∙ stands disk D f spelled i here) in
-      (omega (arith, many, two), ap (λ (n : ℕ). n % dirent_len) many ∙ whole_slots (length (slots_of disk (inode_of disk i))))
+      let low = lie_apart (version_in disk) 1 (length (slots_of disk (inode_of disk i))) (omega (arith, two)) in
+      (omega (arith, many, low), ap (λ (n : ℕ). n % dirent_len_of (version_in disk)) many ∙ (count_slots (version_in disk) (length (slots_of disk (inode_of disk i)))).1)
 
   pub good_sizes : HaveRoom disk → HasGoodSizes disk
   good_sizes room i node = record {

@@ -1,10 +1,10 @@
 -- What a disk holds, part by part of all inodes.
-use Rattle.inodes_on_blocks.proofs.Vocabulary.{◌≡◌, ◌≢◌, ℕ, ◌<◌, ◌≤◌, true, List, subst, Some, All, sizes_of, Node, IsOnce, inode_of, is_node, numbers_by, named_by, node_is, Nodes, IsRecord, HasContent, HasContentOf, IsOwned, Holds}
+use Rattle.inodes_on_blocks.proofs.Vocabulary.{◌≡◌, ◌≢◌, ℕ, ◌<◌, ◌≤◌, true, List, subst, Some, All, sizes_of, version_in, Node, IsOnce, inode_of, is_node, numbers_by, named_by, node_is, Nodes, IsRecord, HasContent, HasContentOf, IsOwned, Holds}
 use Rattle.inodes_on_blocks.specs.Holds.{HasRoom}
 
 pub record HoldsRecords (disk : List (List ℕ)) (nodes : Nodes) : Type 0 where
   pub range : (i : ℕ) (v : Node) → nodes i ≡ Some v → (1 ≤ i) × (i < (sizes_of disk).ninodes)
-  pub record_of : (i : ℕ) → 1 ≤ i → i < (sizes_of disk).ninodes → IsRecord (inode_of disk i) (nodes i)
+  pub record_of : (i : ℕ) → 1 ≤ i → i < (sizes_of disk).ninodes → IsRecord (version_in disk) (inode_of disk i) (nodes i)
 
 pub record HoldsContents (disk : List (List ℕ)) (nodes : Nodes) : Type 0 where
   pub content : (i : ℕ) (v : Node) → nodes i ≡ Some v → HasContent disk (inode_of disk i) v.kind

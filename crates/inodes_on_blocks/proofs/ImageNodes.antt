@@ -1,8 +1,9 @@
 -- A well-formed image holds the nodes of its tree.
-use Rattle.inodes_on_blocks.proofs.Vocabulary.{get_or, ◌≡◌, ◌≢◌, ◌⊎◌, ⊎_elim, ℕ, zero, suc, ◌+◌, ◌*◌, ◌/◌, ◌<◌, ◌≤◌, true, false, ℤ, pos, negsuc, inl, inr, refl, sym, ◌∙◌, ap, subst, arith, List, [], ◌∷◌, length, length-append, map, slice_index, Option, Some, None, ints, nat_lt, ◌≤ℤ◌, if◌then◌else◌, All, false≢true, eqb-true, cases_lt, nat_tests, length-map, get_or_past, All-head, All-tail, Dinode, Free, Used, HasWholeBlocks, block_at, logged, recovered, sizes_of, length-logged, place_of_cases, Node, NodeKind, File, Device, tree_of, inode_of, is_number, is_positive, is_free, is_directory, is_live, is_node, is_live_directory, numbers_of, block_number, content_block, blocks_for, front_blocks, content_of, slot_on as slot_at, first_slots, slots_of, IsData, HasGoodNumbers, HasGoodTypes, HasGoodSizes, HasGoodSlots, UpToLog, IsWellFormed, slot_of, is_file, count_of, node_of, tree_in, node_is, node_from, directory_from, numbers_by_node, either, type_in, size_in, IsDevice, IsRecord, entry_of, HasContent, HasContentOf, Holds, AreNodesOf, live_part, owner_in, first_slots_by, kind_by, block_len, direct, dirent_len}
+use Rattle.inodes_on_blocks.proofs.Vocabulary.{get_or, ◌≡◌, ◌≢◌, ◌⊎◌, ⊎_elim, ℕ, zero, suc, ◌+◌, ◌*◌, ◌/◌, ◌<◌, ◌≤◌, true, false, ℤ, pos, negsuc, inl, inr, refl, sym, ◌∙◌, ap, subst, arith, List, [], ◌∷◌, length, length-append, map, slice_index, Option, Some, None, ints, nat_lt, ◌≤ℤ◌, if◌then◌else◌, All, false≢true, eqb-true, cases_lt, nat_tests, length-map, get_or_past, All-head, All-tail, Version, Dinode, Free, Used, version_in, HasWholeBlocks, block_at, logged, recovered, sizes_of, length-logged, place_of_cases, Node, NodeKind, File, Device, tree_of, inode_of, is_number, is_positive, is_free, is_directory, is_live, is_node, is_live_directory, numbers_of, block_number, content_block, blocks_for, front_blocks, content_of, slots_of, IsData, HasGoodNumbers, HasGoodTypes, HasGoodSizes, HasGoodSlots, UpToLog, IsWellFormed, slot_of, is_file, count_of, node_of, tree_in, node_is, node_from, directory_from, numbers_by_node, either, type_in, size_in, IsDevice, IsRecord, entry_of, HasContent, HasContentOf, Holds, AreNodesOf, live_part, owner_in, first_slots_by as first_slots, slot_by as slot_at, kind_by, block_len, direct, dirent_len_of}
+use Rattle.image_versions.proofs.Places.{in_range}
 use Rattle.std.proofs.lemmas.List.{length-take}
 use Rattle.fs_layout.specs.Recovered.{place_of}
-use Rattle.image_tree.specs.VersionOne.{kind_of}
+use Rattle.image_tree.specs.Images.{kind_of}
 use Rattle.inodes_on_blocks.proofs.ImageSlots.{Entries, in_tree}
 use Rattle.inodes_on_blocks.proofs.Nodes.{no_node, dead_node, live_node, kind_of_directory, nodes_at, ninodes_are, slots_of_directory}
 use Rattle.inodes_on_blocks.proofs.Trees.{no_raises, there_is_node}
@@ -44,10 +45,10 @@ spelled_again (Some Free ∷ slots) all = ap (λ (es : Entries). Some Free ∷ e
 spelled_again (Some (Used number name) ∷ slots) all =
     ap (λ (es : Entries). Some (Used number name) ∷ es) (spelled_again slots (All-tail (λ slot. slot ≢ None) (Some (Used number name)) slots all))
 
-pub length_slots : (disk : List (List ℕ)) (d : Dinode) (n : ℕ) → length (first_slots disk d n) ≡ n
-unfolding first_slots_by
-length_slots disk d zero = refl
-length_slots disk d (suc n) = omega (arith, length-append (first_slots disk d n) (slot_at disk d n ∷ []), length_slots disk d n)
+pub length_slots : (version : Version) (disk : List (List ℕ)) (d : Dinode) (n : ℕ) → length (first_slots version disk d n) ≡ n
+unfolding first_slots
+length_slots version disk d zero = refl
+length_slots version disk d (suc n) = omega (arith, length-append (first_slots version disk d n) (slot_at version disk d n ∷ []), length_slots version disk d n)
 
 -- ---- bytes
 
@@ -81,7 +82,7 @@ device_kind_of disk d e =
 -- the inode and the blocks say this kind
 record Says (disk : List (List ℕ)) (d : Dinode) (k : NodeKind) : Type 0 where
   kind : d.kind ≡ pos (type_in k)
-  size : d.size ≡ size_in k
+  size : d.size ≡ size_in (version_in disk) k
   device : IsDevice d k
   content : HasContent disk d k
 
@@ -145,10 +146,12 @@ module _ (disk : List (List ℕ)) (whole : HasWholeBlocks disk) (well : IsWellFo
       let entries : Entries = slots_of disk (inode_of disk i) in
       let all : All (λ slot. slot ≢ None) entries = subst (All (λ slot. slot ≢ None)) (slots_of_directory disk i here) (slots i here).entries in
       let rest = ((sizes i node).fits.slots directory live).1 in
+      let wide = (in_range (version_in disk)).2 in
+      let many : (inode_of disk i).size ≡ dirent_len_of (version_in disk) * ((inode_of disk i).size / dirent_len_of (version_in disk)) = omega (arith, rest, wide) in
       subst (Says disk (inode_of disk i)) (sym (kind_of_directory disk (inode_of disk i) directory))
       (record {
         kind = e;
-        size = omega (arith, rest, length-map entries slot_of, length_slots disk (inode_of disk i) ((inode_of disk i).size / dirent_len));
+        size = many ∙ ap (λ (n : ℕ). dirent_len_of (version_in disk) * n) (sym (length-map entries slot_of ∙ length_slots (version_in disk) disk (inode_of disk i) ((inode_of disk i).size / dirent_len_of (version_in disk))));
         device = tt;
         content = spelled_again entries all;
       })
@@ -167,10 +170,10 @@ module _ (disk : List (List ℕ)) (whole : HasWholeBlocks disk) (well : IsWellFo
             (record { kind = e; size = refl; device = (refl, refl); content = tt })
       ]
 
-  inode_and_content : (i : ℕ) → 1 ≤ i → i < (sizes_of disk).ninodes → IsRecord (inode_of disk i) (node_of disk i) × HasContentOf disk (inode_of disk i) (node_of disk i)
+  inode_and_content : (i : ℕ) → 1 ≤ i → i < (sizes_of disk).ninodes → IsRecord (version_in disk) (inode_of disk i) (node_of disk i) × HasContentOf disk (inode_of disk i) (node_of disk i)
   inode_and_content i low bound =
       let type = types i low bound in
-      let R : Option Node → Type 0 = λ o. IsRecord (inode_of disk i) o × HasContentOf disk (inode_of disk i) o in
+      let R : Option Node → Type 0 = λ o. IsRecord (version_in disk) (inode_of disk i) o × HasContentOf disk (inode_of disk i) o in
       elim (either (is_free (inode_of disk i))) [
         | inl free ↦
             let none : is_node disk i ≡ false = no_node_free i free in

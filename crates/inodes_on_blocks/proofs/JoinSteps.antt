@@ -1,7 +1,7 @@
 -- A transaction is joined in one step, which may wait below.
-use Rattle.inodes_on_blocks.proofs.Vocabulary.{◌≡◌, inl, inr, ℕ, ◌<◌, Bool, true, false, length, get_or, get_or-set_other, is_some, Option, Some, None, refl, sym, ◌∙◌, ap, subst, if◌then◌else◌, slice_get, slice_set, slice_get-get_or, slice_get-set_other, put, hart_count, same_or, put_same, put_other, joined_count as joined, limit_of, join_waits, Ran, Laws, Both, join_if, IsWholeLog, After, keeps_whole, Desk, Join, LocksNone, loaded, is_joined, Ghost, AreOnBlocks, World, log_of, tables_of, disk_of, came_to, Shows, if_joined, ghost_of, on_blocks, Carry, Base, Labels, labelled, Keeps, join, ActsOnce}
+use Rattle.inodes_on_blocks.proofs.Vocabulary.{◌≡◌, inl, inr, ℕ, ◌<◌, Bool, true, false, length, get_or, get_or-set_other, is_some, Option, Some, None, refl, sym, ◌∙◌, ap, subst, if◌then◌else◌, slice_get, slice_set, slice_get-get_or, slice_get-set_other, put, hart_count, same_or, put_same, put_other, joined_count as joined, limit_of, join_waits, Ran, Laws, Both, join_if, IsWholeLog, After, keeps_whole, Desk, Join, LocksNone, loaded, is_joined, Ghost, AreOnBlocks, World, log_of, tables_of, disk_of, came_to, Shows, if_joined, ghost_of, on_blocks, Carry, Base, Labels, labelled, Keeps, join, ActsOnceAt, Super}
 use Rattle.std.proofs.lemmas.List.{get_or-set_same}
-use Rattle.inode_machine.specs.VersionOne as one
+use Rattle.inode_machine.specs.Rules as rules
 use Rattle.fs_machine.specs.Steps as steps
 use Rattle.fs_machine.specs.Premises as premises
 use Rattle.inode_machine.specs.World as above
@@ -9,7 +9,7 @@ use Rattle.inode_machine.specs.Exec as above_exec
 use Rattle.inodes_on_blocks.proofs.Basics.{part_same, join_keeps, still_joined, untouched_same, Came, CameTo, one_step}
 use Rattle.inodes_on_blocks.proofs.LeaveSteps.{tables_desk}
 
-module _ (l : Labels) (laws : Laws (labelled l)) (keeps : Keeps l) (h : ℕ) (lt : h < hart_count) where
+module _ (sizes : Super) (l : Labels) (laws : Laws (labelled sizes.version l)) (keeps : Keeps l) (h : ℕ) (lt : h < hart_count) where
   abbrev W : Type 0
   W = Both World above.World
 
@@ -56,8 +56,8 @@ module _ (l : Labels) (laws : Laws (labelled l)) (keeps : Keeps l) (h : ℕ) (lt
       ghost = λ z. record { nodes = on_blocks v.real.new v.seen.disk; owner = v.real.owner; left = v.real.left; changing = λ i. change (v.seen.lock i) (none i) z }
 
   -- an operation that joins, and has this answer
-  pub join_came : (op : above.Op) (a : above.Answer op) (v : W) (c : Carry) → one.exec h above.Room op v.seen ≡ Ran a (above_exec.with_joined v.seen h true) → Shows v.real v.seen → Base h v.real v.seen c
-      → (v.seen.desks h).lender ≡ None → LocksNone h v.seen → IsWholeLog (log_of (with_member v.real)) → Came l laws keeps h op v a (with_member v.real) c
+  pub join_came : (op : above.Op) (a : above.Answer op) (v : W) (c : Carry) → above_exec.exec sizes.version h above.Room op v.seen ≡ Ran a (above_exec.with_joined v.seen h true) → Shows v.real v.seen → Base h v.real v.seen c
+      → (v.seen.desks h).lender ≡ None → LocksNone h v.seen → IsWholeLog (log_of (with_member v.real)) → Came sizes l laws keeps h op v a (with_member v.real) c
   join_came op a v c ran shows base free none whole = record {
     then_ = above_exec.with_joined v.seen h true;
     ran = ran;
@@ -83,14 +83,14 @@ module _ (l : Labels) (laws : Laws (labelled l)) (keeps : Keeps l) (h : ℕ) (lt
     };
   }
 
-  pub join_acts : (m : Unit {0} → Option above.Mark) → ActsOnce l h Join m join
+  pub join_acts : (m : Unit {0} → Option above.Mark) → ActsOnceAt sizes l h Join m join
   unfolding steps.exec premises.May premises.MayWait premises.Honest
   join_acts m =
-      one_step l laws keeps h Join m (λ c. steps.Join) (λ c a. a) (λ c a. c) (λ v. tt)
+      one_step sizes l laws keeps h Join m (λ c. steps.Join) (λ c a. a) (λ c a. c) (λ v. tt)
       (λ v c shows inv base may. ((lt, alone v shows may.1.1), λ x t. by v c shows base may (join_waits (log_of v.real).phase (length (log_of v.real).group) (joined (log_of v.real).members) (limit_of (log_of v.real).sizes)) refl (keeps_whole h x steps.Join v.real.state shows.whole (lt, alone v shows may.1.1) tt)))
     where
-      by : (v : W) (c : Carry) → Shows v.real v.seen → Base h v.real v.seen c → one.May h Join v.seen → (b : Bool) → join_waits (log_of v.real).phase (length (log_of v.real).group) (joined (log_of v.real).members) (limit_of (log_of v.real).sizes) ≡ b
+      by : (v : W) (c : Carry) → Shows v.real v.seen → Base h v.real v.seen c → rules.May sizes.version h Join v.seen → (b : Bool) → join_waits (log_of v.real).phase (length (log_of v.real).group) (joined (log_of v.real).members) (limit_of (log_of v.real).sizes) ≡ b
           → After (λ t. IsWholeLog t.log) (steps.in_log v.real.state (join_if h (log_of v.real) b))
-          → CameTo l laws keeps h Join v (join_waits (log_of v.real).phase (length (log_of v.real).group) (joined (log_of v.real).members) (limit_of (log_of v.real).sizes) ≡ true) (came_to h steps.Join v.real (steps.in_log v.real.state (join_if h (log_of v.real) b))) (λ a. a) (λ a. c)
+          → CameTo sizes l laws keeps h Join v (join_waits (log_of v.real).phase (length (log_of v.real).group) (joined (log_of v.real).members) (limit_of (log_of v.real).sizes) ≡ true) (came_to h steps.Join v.real (steps.in_log v.real.state (join_if h (log_of v.real) b))) (λ a. a) (λ a. c)
       by v c shows base may true e whole = e
       by v c shows base may false e whole = join_came Join tt v c refl shows base may.0 may.1.0 whole

@@ -1,5 +1,5 @@
 -- A put of a block of an inode's content changes it there alone.
-use Rattle.inodes_on_blocks.proofs.Vocabulary.{◌≡◌, ◌≢◌, ⊎_elim, ℕ, sym, ◌∙◌, ap, subst, List, ◌++◌, filter, get_or, slice_index, All, cases_eq, get_or_append_left, Super, Dinode, u32s_at, recovered, Node, IsOnce, is_block, numbers_of, block_number, content_block, IsData, numbers_without, numbers_with, HasContent, IsInode, IsOwned, IsPut, IsLaidOut, Becomes, direct, numbers_per_block}
+use Rattle.inodes_on_blocks.proofs.Vocabulary.{◌≡◌, ◌≢◌, ⊎_elim, ℕ, sym, ◌∙◌, ap, subst, List, ◌++◌, filter, get_or, slice_index, All, cases_eq, get_or_append_left, Super, Dinode, u32s_at, recovered, version_in, Node, IsOnce, is_block, numbers_of, block_number, content_block, IsData, numbers_without, numbers_with, HasContent, IsInode, IsOwned, IsPut, IsLaidOut, Becomes, direct, numbers_per_block}
 use Rattle.inodes_on_blocks.specs.Holds.{HasRoom}
 use Rattle.inodes_on_blocks.proofs.Basics.{block_of, named_kept, spare_kept, addrs_alone, within, one_place, place, number_place, place_apart, place_same}
 
@@ -35,7 +35,7 @@ module _ (disk new : List (List ℕ)) (owner : ℕ → ℕ) (i k : ℕ) (d : Din
       ∙ sym (block_of disk d l)
 
   -- with this record it is laid out, if it names the same blocks
-  pub becomes : (e : Dinode) (w : Node) → e.addrs ≡ d.addrs → IsInode e w → HasContent new e w.kind → HasRoom disk e → Becomes disk new owner owner i d e w
+  pub becomes : (e : Dinode) (w : Node) → e.addrs ≡ d.addrs → IsInode (version_in new) e w → HasContent new e w.kind → HasRoom disk e → Becomes disk new owner owner i d e w
   becomes e w addrs is content room =
       let same : numbers_of new e ≡ ns = addrs_alone new d e addrs ∙ numbers_stay in
       let was : numbers_of disk e ≡ ns = addrs_alone disk d e addrs in

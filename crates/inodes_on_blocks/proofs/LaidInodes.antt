@@ -1,5 +1,6 @@
 -- An inode before it is changed, and when it is put.
-use Rattle.inodes_on_blocks.proofs.Vocabulary.{◌≡◌, ◌≢◌, ℕ, ◌<◌, ◌≤◌, true, ℤ, pos, ◌≤ℤ◌, refl, sym, ◌∙◌, ap, subst, ⊎_elim, arith, List, [], ◌∷◌, length, filter, slice_index, Some, None, All, Contains, cases_lt, get_or_past, ints, All-nil, Super, Dinode, recovered, sizes_of, Node, NodeKind, Directory, File, Device, IsOnce, inode_of, is_number, is_free, is_block, numbers_of, numbers_by, block_number, content_block, IsData, UpToLog, once_nil, numbers_by_node, numbers_by_free, numbers_without, type_in, size_in, IsDevice, IsInode, IsRecord, HasContent, HasContentOf, IsOwned, NamesOwned, HoldsAt, IsInodePut, IsLaidOut, Becomes, first_slots_by, direct}
+use Rattle.inodes_on_blocks.proofs.Vocabulary.{◌≡◌, ◌≢◌, ℕ, ◌*◌, ◌/◌, ◌<◌, ◌≤◌, true, ℤ, pos, ◌≤ℤ◌, refl, sym, ◌∙◌, ap, subst, ⊎_elim, arith, List, [], ◌∷◌, length, filter, slice_index, Some, None, All, Contains, cases_lt, get_or_past, ints, All-nil, Super, Dinode, recovered, sizes_of, Version, version_in, dirent_len_of, Node, NodeKind, Directory, File, Device, IsOnce, inode_of, is_number, is_free, is_block, numbers_of, numbers_by, block_number, content_block, IsData, UpToLog, once_nil, numbers_by_node, numbers_by_free, numbers_without, type_in, size_in, IsDevice, IsInode, IsRecord, HasContent, HasContentOf, IsOwned, NamesOwned, HoldsAt, IsInodePut, IsLaidOut, Becomes, first_slots_by, direct}
+use Rattle.image_versions.proofs.Places.{count_slots, in_range}
 use Rattle.inodes_on_blocks.specs.Holds.{HasRoom}
 use Rattle.inodes_on_blocks.specs.Puts.{inode_block}
 use Rattle.inodes_on_blocks.proofs.Held.{inode_used}
@@ -12,7 +13,7 @@ use Rattle.inodes_on_blocks.proofs.ImagePlaces.{once_by_places}
 pub laid_before : (disk : List (List ℕ)) (owner : ℕ → ℕ) (i : ℕ) (v : Node) → HoldsAt disk owner i (Some v)
     → IsLaidOut disk owner i (inode_of disk i) v × NamesOwned disk owner i (numbers_of disk (inode_of disk i))
 laid_before disk owner i v h =
-    let used = inode_used (inode_of disk i) v h.inode in
+    let used = inode_used (version_in disk) (inode_of disk i) v h.inode in
     let same = numbers_by_node disk i used in (
       record {
         inode = h.inode;
@@ -29,11 +30,11 @@ laid_before disk owner i v h =
 module _ (disk new : List (List ℕ)) (owner : ℕ → ℕ) (i : ℕ) (d : Dinode) (v : Node) (named : NamesOwned disk owner i (numbers_of disk d)) (h : IsLaidOut disk owner i d v)
     (after : IsLaidOut new owner i d v) (same : numbers_of new d ≡ numbers_of disk d) (sizes : sizes_of new ≡ sizes_of disk) (is : inode_of new i ≡ d) where
   numbers_now : numbers_by new i ≡ numbers_of new d
-  numbers_now = numbers_by_node new i (ap is_free is ∙ inode_used d v h.inode) ∙ ap (numbers_of new) is
+  numbers_now = numbers_by_node new i (ap is_free is ∙ inode_used (version_in disk) d v h.inode) ∙ ap (numbers_of new) is
 
   laid_held : HoldsAt new owner i (Some v)
   laid_held = record {
-    inode = subst (λ (x : Dinode). IsRecord x (Some v)) (sym is) h.inode;
+    inode = subst (λ (x : Dinode). IsRecord (version_in new) x (Some v)) (sym is) after.inode;
     content = subst (λ (x : Dinode). HasContentOf new x (Some v)) (sym is) after.content;
     room = λ _. subst (HasRoom new) (sym is) after.room;
     blocks = record {
@@ -113,7 +114,7 @@ count_laid disk owner i count d v h =
     record {
       laid = record {
         inode = record { kind = is.kind; count = refl; size = is.size; device = device_kept d e v.kind refl refl is.device };
-        content = content_same disk disk d e refl (λ k l. block_alone disk d e refl k) v.kind h.content;
+        content = content_same disk disk d e refl refl (λ k l. block_alone disk d e refl k) v.kind h.content;
         room = record { limit = (let room = h.room in room.limit); there = λ k l. subst (λ (ns : List ℕ). block_number ns k ≢ 0) (sym same) (h.room.there k l) };
         owned = subst (All (λ b. b ≢ 0 → IsOwned disk owner i b)) (sym same) h.owned;
         once = subst (λ (ns : List ℕ). IsOnce (filter is_block ns)) (sym same) h.once;
@@ -125,17 +126,20 @@ count_laid disk owner i count d v h =
 
 -- ---- an empty one
 
-module _ (disk : List (List ℕ)) (owner : ℕ → ℕ) (i : ℕ) (d : Dinode) (v : Node) (is : IsInode d v) (size : size_in v.kind ≡ 0) (none : All (λ b. b ≡ 0) d.addrs) where
+module _ (disk : List (List ℕ)) (owner : ℕ → ℕ) (i : ℕ) (d : Dinode) (v : Node) (is : IsInode (version_in disk) d v) (size : size_in (version_in disk) v.kind ≡ 0) (none : All (λ b. b ≡ 0) d.addrs) where
   no_number : (k : ℕ) → slice_index d.addrs k ≡ 0
   no_number k = ⊎_elim (λ (l : k < length d.addrs). none k 0 l) (λ (m : length d.addrs ≤ k). get_or_past d.addrs k 0 m) (cases_lt k (length d.addrs))
 
   numbers_empty : numbers_of disk d ≡ d.addrs
   numbers_empty = numbers_without disk d (no_number direct)
 
-  content_empty : (k : NodeKind) → size_in k ≡ 0 → d.size ≡ 0 → HasContent disk d k
+  content_empty : (k : NodeKind) → size_in (version_in disk) k ≡ 0 → d.size ≡ 0 → HasContent disk d k
   unfolding first_slots_by
-  content_empty (Directory []) e z = rw z refl
-  content_empty (Directory (s ∷ slots)) e z = absurd (omega (arith, e))
+  content_empty (Directory []) e z =
+      let version : Version = version_in disk in
+      let none : 0 ≡ dirent_len_of version * 0 = omega arith in
+      ap (λ (n : ℕ). first_slots_by version disk d (n / dirent_len_of version)) (z ∙ none) ∙ ap (first_slots_by version disk d) (count_slots version 0).0
+  content_empty (Directory (s ∷ slots)) e z = absurd (let wide = (in_range (version_in disk)).2 in omega (arith, e, wide))
   content_empty (File []) e z = rw z refl
   content_empty (File (b ∷ bytes)) e z = absurd (omega (arith, e))
   content_empty (Device major minor s) e z = tt

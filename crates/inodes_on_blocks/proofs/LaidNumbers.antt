@@ -1,5 +1,5 @@
 -- An inode that names one block more than before.
-use Rattle.inodes_on_blocks.proofs.Vocabulary.{◌≡◌, ◌≢◌, ⊎_elim, ℕ, zero, suc, ◌+◌, ◌-◌, ◌*◌, ◌^◌, ◌<◌, ◌≤◌, inl, inr, refl, sym, ◌∙◌, ap, subst, arith, List, [], ◌∷◌, ◌++◌, length, set, get_or, slice_index, replicate, get_or-set_other, get_or-set_same, nat_lt, if◌then◌else◌, flat_map, All, Contains, cases_lt, get_or_append_left, get_or-append_right, length-replicate, append-nil, All-replicate, recursion_from_All, Super, Dinode, u32_bytes, u32s_at, recovered, sizes_of, length-u32s_at, u32s_at-bytes, Node, numbers_of, block_number, IsData, numbers_without, numbers_with, same_or, IsOwned, IsNumberPut, IsLaidOut, IsSpare, Names, addresses, block_len, direct, numbers_per_block}
+use Rattle.inodes_on_blocks.proofs.Vocabulary.{IsInode, ◌≡◌, ◌≢◌, ⊎_elim, ℕ, zero, suc, ◌+◌, ◌-◌, ◌*◌, ◌^◌, ◌<◌, ◌≤◌, inl, inr, refl, sym, ◌∙◌, ap, subst, arith, List, [], ◌∷◌, ◌++◌, length, set, get_or, slice_index, replicate, get_or-set_other, get_or-set_same, nat_lt, if◌then◌else◌, flat_map, All, Contains, cases_lt, get_or_append_left, get_or-append_right, length-replicate, append-nil, All-replicate, recursion_from_All, Super, Dinode, u32_bytes, u32s_at, recovered, sizes_of, length-u32s_at, u32s_at-bytes, Node, numbers_of, block_number, IsData, numbers_without, numbers_with, same_or, IsOwned, IsNumberPut, IsLaidOut, IsSpare, Names, addresses, block_len, direct, numbers_per_block}
 use Rattle.std.proofs.lemmas.List.{length-set}
 use Rattle.inodes_on_blocks.proofs.Basics.{at_index, block_of, content_same, device_kept, HasPlaces, within, one_place, once_by_places, all_by_places, contains_at, contains_place, place, number_place, place_apart}
 
@@ -74,14 +74,14 @@ module _ (disk new : List (List ℕ)) (owner : ℕ → ℕ) (i p b : ℕ) (d e :
   pub names_more : Names disk new owner i b d e v
   names_more = record {
     laid = record {
-      inode = (let is = h.inode in record {
+      inode = (let is = h.inode in subst (λ (s : Super). IsInode s.version e v) (sym sizes) (record {
         kind = like.kind ∙ is.kind;
         count = like.nlink ∙ is.count;
         size = like.size ∙ is.size;
         device = device_kept d e v.kind like.major like.minor is.device;
-      });
+      }));
       content =
-          content_same disk new d e like.size
+          content_same disk new d e sizes like.size
           (λ k l.
           let ne = h.room.there k l in
           block_of new e k ∙ ap (recovered new) (number_stays k ne) ∙ same k ne ∙ sym (block_of disk d k))

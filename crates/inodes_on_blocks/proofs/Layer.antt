@@ -1,5 +1,5 @@
 -- What the others leave to a hart below, and what a step on the tables leaves to them.
-use Rattle.inodes_on_blocks.proofs.Vocabulary.{◌≡◌, ◌≢◌, ◌⊎◌, inl, inr, ℕ, true, false, List, Option, Some, None, refl, sym, ◌∙◌, ap, subst, none-some, Dinode, Super, IsData, is_free, Node, HoldsAt, IsUntouched, LowerLaws, TablesState, lock_holder, seen_of, LogPart, eq_is, eq_self, Held, is_hart, if_kept, above_own as own_of, view, Idle, Ours, not_ours, kept_is, kept_here, has_inode, World, log_of, tables_of, disk_of, inode_in, untyped, KeepsInode, commit_in, undertaken, IsThrough, Same, Kept, Had, Apart, Has, Emptied, Carry, IsKnown, IsLoaded, InHand, Base, below, Labels, labelled, Keeps, IsOpened, Loaded, IsIndexOf}
+use Rattle.inodes_on_blocks.proofs.Vocabulary.{◌≡◌, ◌≢◌, ◌⊎◌, inl, inr, ℕ, true, false, List, Option, Some, None, refl, sym, ◌∙◌, ap, subst, none-some, Dinode, Super, Version, IsData, is_free, Node, HoldsAt, IsUntouched, LowerLaws, TablesState, lock_holder, seen_of, LogPart, eq_is, eq_self, Held, is_hart, if_kept, above_own as own_of, view, Idle, Ours, not_ours, kept_is, kept_here, has_inode, World, log_of, tables_of, disk_of, inode_in, untyped, KeepsInode, commit_in, undertaken, IsThrough, Same, Kept, Had, Apart, Has, Emptied, Carry, IsKnown, IsLoaded, InHand, Base, below, Labels, labelled, Keeps, IsOpened, Loaded, IsIndexOf}
 use Rattle.inodes_on_blocks.proofs.HeldFrames.{untouched}
 use Rattle.inode_machine.specs.World as above
 use Rattle.inode_machine.specs.Rules.{Own}
@@ -79,31 +79,33 @@ kept_alike h i v w lock disk owner = record {
 
 -- ---- what a hart has in hand
 
-still_loaded : (o : Had) (m n : Option Node) (d e : Dinode) → n ≡ m → e ≡ d → IsLoaded o m d → IsLoaded o n e
-still_loaded Apart m n d e q p x = x
-still_loaded (Has f l) m n d e q p x = (x.0 ∙ sym p, λ z. x.1 (sym q ∙ z), subst (IsKnown l) (sym q) x.2, subst (IsIndexOf f.index) (sym q) x.3)
-still_loaded Emptied m n d e q p x = (q ∙ x.0, ap is_free p ∙ x.1)
+still_loaded : (version : Version) (o : Had) (m n : Option Node) (d e : Dinode) → n ≡ m → e ≡ d → IsLoaded version o m d → IsLoaded version o n e
+still_loaded version Apart m n d e q p x = x
+still_loaded version (Has f l) m n d e q p x = (x.0 ∙ sym p, λ z. x.1 (sym q ∙ z), subst (IsKnown l) (sym q) x.2, subst (IsIndexOf version f.index) (sym q) x.3)
+still_loaded version Emptied m n d e q p x = (q ∙ x.0, ap is_free p ∙ x.1)
 
 -- of each inode whose lock it has
 abbrev pub AllInHand : ℕ → Carry → World → above.World → Type 0
 AllInHand h c r g = (i : ℕ) → lock_holder i (tables_of r) ≡ Some h → InHand h i (c i) r g
 
-pub hand_then : (h i : ℕ) (o : Had) (v w : World) (g u : above.World) → KeepsInode h i v w → Kept h g u → (((g.desks h).lender ≡ None → ⊥) → Idle h g) → InHand h i o v g → InHand h i o w u
-hand_then h i o v w g u k kept lent was =
+pub hand_then : (h i : ℕ) (o : Had) (v w : World) (g u : above.World) → (log_of w).sizes ≡ (log_of v).sizes → KeepsInode h i v w → Kept h g u → (((g.desks h).lender ≡ None → ⊥) → Idle h g) → InHand h i o v g → InHand h i o w u
+hand_then h i o v w g u sized k kept lent was =
     let now = kept_disk h i g u kept lent was.keeps in
     record {
       keeps = now.0;
-      loaded_is = still_loaded o (g.disk i) (u.disk i) (inode_in (log_of v) i) (inode_in (log_of w) i) now.1 k.untouched.inode was.loaded_is;
+      loaded_is =
+          subst (λ (s : Super). IsLoaded s.version o (u.disk i) (inode_in (log_of w) i)) (sym sized)
+          (still_loaded (log_of v).sizes.version o (g.disk i) (u.disk i) (inode_in (log_of v) i) (inode_in (log_of w) i) now.1 k.untouched.inode was.loaded_is);
       holds =
           subst (λ (n : Option Node). HoldsAt (disk_of (log_of w)) w.owner i n) (sym now.1)
           (untouched (disk_of (log_of v)) (disk_of (log_of w)) v.owner w.owner i (g.disk i) k.untouched was.holds);
       opened = kept_open h i o g u kept lent was.keeps was.opened;
     }
 
-pub in_hand_then : (h : ℕ) (c : Carry) (v w : World) (g u : above.World) → ((i : ℕ) → lock_holder i (tables_of v) ≡ Some h → KeepsInode h i v w)
+pub in_hand_then : (h : ℕ) (c : Carry) (v w : World) (g u : above.World) → (log_of w).sizes ≡ (log_of v).sizes → ((i : ℕ) → lock_holder i (tables_of v) ≡ Some h → KeepsInode h i v w)
     → ((i : ℕ) → lock_holder i (tables_of w) ≡ Some h → lock_holder i (tables_of v) ≡ Some h) → Kept h g u → (((g.desks h).lender ≡ None → ⊥) → Idle h g) → AllInHand h c v g → AllInHand h c w u
-in_hand_then h c v w g u inodes no_more kept lent all i e =
-    let before = no_more i e in hand_then h i (c i) v w g u (inodes i before) kept lent (all i before)
+in_hand_then h c v w g u sized inodes no_more kept lent all i e =
+    let before = no_more i e in hand_then h i (c i) v w g u sized (inodes i before) kept lent (all i before)
 
 pub lent_then : (h : ℕ) (g u : above.World) → Kept h g u → (((g.desks h).lender ≡ None → ⊥) → Idle h g) → ((u.desks h).lender ≡ None → ⊥) → Idle h u
 lent_then h g u kept lent some = by (g.desks h).lender refl
@@ -112,7 +114,7 @@ lent_then h g u kept lent some = by (g.desks h).lender refl
     by None e = absurd (some (ap (λ (o : Own). o.desk.lender) (kept.same e) ∙ e))
     by (Some l) e = kept.rests (lent (λ z. none-some l (sym z ∙ e)))
 
-pub below_laws : (sizes : Super) (l : Labels) → Keeps l → LowerLaws (labelled l) (below sizes)
+pub below_laws : (sizes : Super) (l : Labels) → Keeps l → LowerLaws (labelled sizes.version l) (below sizes)
 below_laws sizes l keeps =
     record {
       same = λ h w. record { inodes = λ i e. record { lock = e; untouched = untouched_same (disk_of (log_of w)) w.owner i }; no_more = λ i e. e; buffers = λ b. refl; held = refl; member = refl; group = λ b k m e. e; sizes = refl; taken = λ b. refl; begun = refl };
@@ -133,7 +135,7 @@ below_laws sizes l keeps =
           free = same.held ∙ b.free;
           taken = λ n e. b.taken n (held_back (w.taken n) (v.taken n) h (seen_of (log_of w) n) (seen_of (log_of v) n) (same.taken n) e).0;
           through = through_then h v w same.begun b.through;
-          inodes = in_hand_then h c v w g u same.inodes same.no_more kept b.lent b.inodes;
+          inodes = in_hand_then h c v w g u same.sizes same.inodes same.no_more kept b.lent b.inodes;
           lent = λ some. lent_then h g u kept b.lent some;
         },
         same.sizes ∙ stands.1,
@@ -173,7 +175,7 @@ hands_marked h r g u c s all i e =
     let x = all i e in
     record {
       keeps = (λ z. s.keeper z i) ∙ x.keeps;
-      loaded_is = subst (λ (n : Option Node). IsLoaded (c i) n (inode_in (log_of r) i)) (λ z. sym s.disk z i) x.loaded_is;
+      loaded_is = subst (λ (n : Option Node). IsLoaded (log_of r).sizes.version (c i) n (inode_in (log_of r) i)) (λ z. sym s.disk z i) x.loaded_is;
       holds = subst (λ (n : Option Node). HoldsAt (disk_of (log_of r)) r.owner i n) (λ z. sym s.disk z i) x.holds;
       opened = open_then h i (c i) g u (open_alike h i g u (s.desks h).fds s.files) x.opened;
     }

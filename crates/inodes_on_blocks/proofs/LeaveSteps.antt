@@ -1,7 +1,7 @@
 -- A transaction is left in one step, and the writes of the commit that begins with it follow in silence.
-use Rattle.inodes_on_blocks.proofs.Vocabulary.{◌≡◌, ◌≢◌, inl, inr, ℕ, zero, suc, ◌+◌, ◌-◌, ◌<◌, ◌≤◌, ◌==◌, Bool, true, false, List, [], ◌∷◌, Option, Some, None, length, get_or-set_other, is_some, refl, sym, ◌∙◌, ap, subst, arith, if◌then◌else◌, slice_set, eqb-true, eqb-false, slice_get-set_other, Super, IsOutsideLog, is_held_by, AfterLeave, Commits, Phase, Open, Staging, Installing, Halted, joined_count, IsMember, IsUnderWay, next_phase, group_in, phase_at_leave, turn_is_out, seats_after, seats_at_fault, left_at, pick, under_way, put, hart_count, same_or, put_same, put_other, Ret, bind, ExecResult, Ran, Machine, Laws, P, Wp, Both, joined, Below, Lasts, Handover, holding, Silent, s-silent, Acting, s-act, acted, TablesState, lock_holder, LogPart, Outside, Passes, Fails, written, commit_if, is_open, failed, commits, commit_unless, after_leave, own_of, seen_of, Commit, IsWholeLog, After, keeps_whole, leaves_own, SameFor, same_after, shows_its_puts, Desk, Leave, is_at, marked, Inv, LocksNone, more, if_kept, is_hart, loaded, descriptor, first, lent_by, place_with, is_joined, Ghost, AreOnBlocks, World, log_of, tables_of, came_to, exec, Shows, CommitShows, if_joined, ghost_of, on_blocks, Same, Kept, Carry, Base, Stands, commit_in, below, Labels, labelled, Keeps, leave, ActsOnce, Loaded}
+use Rattle.inodes_on_blocks.proofs.Vocabulary.{◌≡◌, ◌≢◌, inl, inr, ℕ, zero, suc, ◌+◌, ◌-◌, ◌<◌, ◌≤◌, ◌==◌, Bool, true, false, List, [], ◌∷◌, Option, Some, None, length, get_or-set_other, is_some, refl, sym, ◌∙◌, ap, subst, arith, if◌then◌else◌, slice_set, eqb-true, eqb-false, slice_get-set_other, Super, IsOutsideLog, is_held_by, AfterLeave, Commits, Phase, Open, Staging, Installing, Halted, joined_count, IsMember, IsUnderWay, next_phase, group_in, phase_at_leave, turn_is_out, seats_after, seats_at_fault, left_at, pick, under_way, put, hart_count, same_or, put_same, put_other, Ret, bind, ExecResult, Ran, Machine, Laws, P, Wp, Both, joined, Below, Lasts, Handover, holding, Silent, s-silent, Acting, s-act, acted, TablesState, lock_holder, LogPart, Outside, Passes, Fails, written, commit_if, is_open, failed, commits, commit_unless, after_leave, own_of, seen_of, Commit, IsWholeLog, After, keeps_whole, leaves_own, SameFor, same_after, shows_its_puts, Desk, Leave, is_at, marked, Inv, LocksNone, more, if_kept, is_hart, loaded, descriptor, first, lent_by, place_with, is_joined, Ghost, AreOnBlocks, World, log_of, tables_of, came_to, exec, Shows, CommitShows, if_joined, ghost_of, on_blocks, Same, Kept, Carry, Base, Stands, commit_in, below, Labels, labelled, Keeps, leave, ActsOnceAt, Loaded}
 use Rattle.std.proofs.lemmas.List.{get_or-set_same}
-use Rattle.inode_machine.specs.VersionOne as one
+use Rattle.inode_machine.specs.Rules as rules
 use Rattle.buffer_cache.specs.Lists.{count_of}
 use Rattle.group_log.specs.declared.log.AfterLeave.TheVariants.{Free}
 use Rattle.fs_machine.specs.Steps as steps
@@ -137,15 +137,15 @@ committing_then sizes h left v w g u same kept c =
       alone = ap (λ (o : Own). o.desk.lender) (kept.same c.alone) ∙ c.alone;
     }
 
-module _ (sizes : Super) (l : Labels) (laws : Laws (labelled l)) (keeps : Keeps l) (h : ℕ) (lt : h < hart_count) where
+module _ (sizes : Super) (l : Labels) (laws : Laws (labelled sizes.version l)) (keeps : Keeps l) (h : ℕ) (lt : h < hart_count) where
   abbrev W : Type 0
   W = Both World above.World
 
   abbrev M : Machine
-  M = joined (labelled l) (below sizes)
+  M = joined (labelled sizes.version l) (below sizes)
 
   abbrev IsSilent : {A : Type 0} → (B : List l.Step → Type 0) → W → Type 0 → ExecResult A World → (A → World → Type 0) → Type 0
-  IsSilent B v wait d N = Silent (labelled l) (below sizes) laws (below_laws sizes l keeps) h B v wait d N
+  IsSilent B v wait d N = Silent (labelled sizes.version l) (below sizes) laws (below_laws sizes l keeps) h B v wait d N
 
   -- after a write
   record Wrote (left : ℕ) (v : W) (ended : Bool) (r : World) : Type 0 where
@@ -263,9 +263,9 @@ module _ (sizes : Super) (l : Labels) (laws : Laws (labelled l)) (keeps : Keeps 
         )
 
   -- all of them
-  module _ (B : List l.Step → Type 0) (C : Unit {0} → List l.Step → above.World → Type 0) (m : Unit {0} → Option above.Mark) (lasts : Lasts (labelled l) h B C) (c : Carry) where
+  module _ (B : List l.Step → Type 0) (C : Unit {0} → List l.Step → above.World → Type 0) (m : Unit {0} → Option above.Mark) (lasts : Lasts (labelled sizes.version l) h B C) (c : Carry) where
     abbrev Q : Handover (Unit {0}) Carry → List l.Step → W → Type 0
-    Q = Below (labelled l) (below sizes) h C
+    Q = Below (labelled sizes.version l) (below sizes) h C
 
     abbrev ends : Unit {0} → P M (Handover (Unit {0}) Carry)
     ends a = Ret (record { answer = a; carry = c })
@@ -283,7 +283,7 @@ module _ (sizes : Super) (l : Labels) (laws : Laws (labelled l)) (keeps : Keeps 
     unfolding premises.May
     commit_all zero es w done on = absurd (let a = some_left (length (log_of w.real).group) (log_of w.real).phase on.begun on.runs in let b = on.enough in omega (arith, a, b))
     commit_all (suc left) es w done on =
-        s-silent (labelled l) (below sizes) laws (below_laws sizes l keeps) h B Commit (λ a. bind (commit_unless (commits left) a) ends) Q (C tt) left es w (acted (labelled l) (below sizes) laws (below_laws sizes l keeps) h B Leave m C lasts tt) done
+        s-silent (labelled sizes.version l) (below sizes) laws (below_laws sizes l keeps) h B Commit (λ a. bind (commit_unless (commits left) a) ends) Q (C tt) left es w (acted (labelled sizes.version l) (below sizes) laws (below_laws sizes l keeps) h B Leave m C lasts tt) done
         (λ v fs here.
         let now = committing_then sizes h (suc left) w.real v.real w.seen v.seen here.same here.kept on in
         let may : premises.May h Commit v.real.state = (lt, now.free, now.begun, now.runs) in
@@ -297,7 +297,7 @@ module _ (sizes : Super) (l : Labels) (laws : Laws (labelled l)) (keeps : Keeps 
 
 -- ---- the leave
 
-module _ (l : Labels) (laws : Laws (labelled l)) (keeps : Keeps l) (h : ℕ) (lt : h < hart_count) where
+module _ (sizes : Super) (l : Labels) (laws : Laws (labelled sizes.version l)) (keeps : Keeps l) (h : ℕ) (lt : h < hart_count) where
   -- the world above without the transaction
   abbrev left_above : above.World → above.World
   left_above g = record g { desks = put g.desks h (record (g.desks h) { joined = false; noted = None }) }
@@ -364,8 +364,8 @@ module _ (l : Labels) (laws : Laws (labelled l)) (keeps : Keeps l) (h : ℕ) (lt
       begun = λ z. ((nothing ∙ sym (ap (λ (o : Option ℕ). if_kept o other (commit_in before)) (nobody_commits h v g shows member))) z, λ n. is_hart (v.new n) other);
     }
 
-  module _ (sizes : Super) (B : List l.Step → Type 0) (C : Unit {0} → List l.Step → above.World → Type 0) (m : Unit {0} → Option above.Mark) (lasts : Lasts (labelled l) h B C) (c : Carry) where
-    module _ (v : Both World above.World) (shows : Shows v.real v.seen) (may : one.May h Leave v.seen) (stands : Stands sizes h v.real v.seen c) (whole : IsWholeLog (left_log (log_of v.real))) where
+  module _ (B : List l.Step → Type 0) (C : Unit {0} → List l.Step → above.World → Type 0) (m : Unit {0} → Option above.Mark) (lasts : Lasts (labelled sizes.version l) h B C) (c : Carry) where
+    module _ (v : Both World above.World) (shows : Shows v.real v.seen) (may : rules.May sizes.version h Leave v.seen) (stands : Stands sizes h v.real v.seen c) (whole : IsWholeLog (left_log (log_of v.real))) where
       abbrev kept_log : LogPart
       kept_log = log_of v.real
 
@@ -376,7 +376,7 @@ module _ (l : Labels) (laws : Laws (labelled l)) (keeps : Keeps l) (h : ℕ) (lt
       then_ = left_above v.seen
 
       abbrev marked_then : above.World
-      marked_then = marked h (m tt) (left_above v.seen)
+      marked_then = marked sizes.version h (m tt) (left_above v.seen)
 
       member : IsMember kept_log.members h
       member = is_member kept_log.members h (sym (shows.members h lt) ∙ may.1.1)
@@ -388,10 +388,10 @@ module _ (l : Labels) (laws : Laws (labelled l)) (keeps : Keeps l) (h : ℕ) (lt
       unlocked i e = may.1.0 i (shows.tables.places.holders i ∙ e)
 
       alone : (marked_then.desks h).lender ≡ None
-      alone = ((marked_same h (m tt) then_).desks h).lender ∙ part_same (λ d. d.lender) v.seen.desks h (record (v.seen.desks h) { joined = false; noted = None }) h refl ∙ may.0
+      alone = ((marked_same sizes.version h (m tt) then_).desks h).lender ∙ part_same (λ d. d.lender) v.seen.desks h (record (v.seen.desks h) { joined = false; noted = None }) h refl ∙ may.0
 
       abbrev Leads : AfterLeave → Type 0
-      Leads a = Acting (labelled l) (below sizes) laws (below_laws sizes l keeps) h B Leave m C lasts above.Room v ⊥ (came_to h steps.Leave v.real (Ran a (record (v.real.state) { log = left_log kept_log })))
+      Leads a = Acting (labelled sizes.version l) (below sizes) laws (below_laws sizes l keeps) h B Leave m C lasts above.Room v ⊥ (came_to h steps.Leave v.real (Ran a (record (v.real.state) { log = left_log kept_log })))
           (λ a b u g. (gs : List l.Step) → Inv g → C b gs g → Wp (M sizes l laws keeps h lt) h B (Q sizes l laws keeps h lt B C m lasts c) (holding c (after_leave a)) 62 gs (record { real = u; seen = g }))
 
       leads : (a : AfterLeave) → (a ≡ Free → phase ≡ Open) → (a ≡ Commits → phase ≡ Staging 0) → Leads a
@@ -401,7 +401,7 @@ module _ (l : Labels) (laws : Laws (labelled l)) (keeps : Keeps l) (h : ℕ) (lt
             marked_then,
             refl,
             tt,
-            (λ inv. shows_marked (left_below v.real v.real.commits) then_ marked_then (marked_same h (m tt) then_) shown),
+            (λ inv. shows_marked (left_below v.real v.real.commits) then_ marked_then (marked_same sizes.version h (m tt) then_) shown),
             (λ other ne. left_same v.real v.seen shows stands.0.through.new may.1.0 member v.real.commits other ne (ap (λ (o : Option ℕ). if_kept o other (commit_in (left_log kept_log))) nobody)),
             λ gs inv done. (done, (rests_with sizes l laws keeps h lt B C m lasts c (left_below v.real v.real.commits) marked_then nobody stands.0.through.new stands.0.free stands.0.taken unlocked alone, stands.1)),
           )
@@ -413,7 +413,7 @@ module _ (l : Labels) (laws : Laws (labelled l)) (keeps : Keeps l) (h : ℕ) (lt
             marked_then,
             refl,
             tt,
-            (λ inv. shows_marked (left_below v.real (Some h)) then_ marked_then (marked_same h (m tt) then_) shown),
+            (λ inv. shows_marked (left_below v.real (Some h)) then_ marked_then (marked_same sizes.version h (m tt) then_) shown),
             (λ other ne. left_same v.real v.seen shows stands.0.through.new may.1.0 member (Some h) other ne (commit_other other h (commit_in (left_log kept_log)) ne)),
             λ gs inv done. commit_all sizes l laws keeps h lt B C m lasts c 62 gs (record { real = left_below v.real (Some h); seen = marked_then }) done (record {
               commits = refl;
@@ -429,16 +429,16 @@ module _ (l : Labels) (laws : Laws (labelled l)) (keeps : Keeps l) (h : ℕ) (lt
             }),
           )
 
-  pub leave_acts : (m : Unit {0} → Option above.Mark) → ActsOnce l h Leave m leave
+  pub leave_acts : (m : Unit {0} → Option above.Mark) → ActsOnceAt sizes l h Leave m leave
   unfolding steps.exec premises.May premises.MayWait premises.Honest
-  leave_acts m sizes c B C es w lasts todo stands =
-      s-act (labelled l) (below sizes) laws (below_laws sizes l keeps) h B Leave m C lasts above.Room steps.Leave (λ a. holding c (after_leave a)) (Below (labelled l) (below sizes) h C) (more Leave) es w todo
+  leave_acts m c B C es w lasts todo stands =
+      s-act (labelled sizes.version l) (below sizes) laws (below_laws sizes l keeps) h B Leave m C lasts above.Room steps.Leave (λ a. holding c (after_leave a)) (Below (labelled sizes.version l) (below sizes) h C) (more Leave) es w todo
       (λ v fs here may.
       let now : Stands sizes h v.real v.seen c = (below_laws sizes l keeps).base h w.real v.real w.seen v.seen c here.same here.kept stands in
       let member : IsMember (log_of v.real).members h = is_member (log_of v.real).members h (sym (here.shows.members h lt) ∙ may.1.1) in
       let allowed : premises.May h steps.Leave v.real.state = (member, here.shows.runs) in (
         allowed,
         λ x t.
-            leads sizes B C m lasts c v here.shows may now (keeps_whole h x steps.Leave v.real.state here.shows.whole allowed tt) (left_at (joined_count (slice_set (log_of v.real).members h None)) (log_of v.real).group)
+            leads B C m lasts c v here.shows may now (keeps_whole h x steps.Leave v.real.state here.shows.whole allowed tt) (left_at (joined_count (slice_set (log_of v.real).members h None)) (log_of v.real).group)
             (left_free (joined_count (slice_set (log_of v.real).members h None)) (log_of v.real).group) (left_commits (joined_count (slice_set (log_of v.real).members h None)) (log_of v.real).group),
       ))

@@ -1,6 +1,7 @@
 -- What a hart hands on to the child that it serves, and the child let go, each at its one step.
-use Rattle.inode_machine.specs.VersionOne as one
-use Rattle.inodes_on_blocks.proofs.Vocabulary.{◌≡◌, ◌≢◌, inl, inr, ℕ, ◌+◌, ◌<◌, ◌≤◌, nat_lt, Bool, true, false, Option, Some, None, refl, sym, ◌∙◌, ap, subst, arith, nat_tests, none-some, same_Some, put, hart_count, descriptor_count, largest_size, same_or, put_other, put_same, ExecResult, Waits, Ran, Laws, Both, Given, next_full, give_next, descriptors_of, Desk, LoanResult, Lent, Moved, Entry, Lend, LendDirectory, Release, next_used, with_lent, handed, moved_in, lend_last, lend_if, released, serving, more_users, slot_or, Inv, Serves, one_refs, next_is, next_past, loaded, descriptor, first, lent_by, given_as, World, tables_of, Shows, Labels, labelled, Keeps, lent_to, old_directory, lend, lend_directory, release, ActsOnce}
+use Rattle.inode_machine.specs.Exec as above_exec
+use Rattle.inode_machine.specs.Rules as rules
+use Rattle.inodes_on_blocks.proofs.Vocabulary.{◌≡◌, ◌≢◌, inl, inr, ℕ, ◌+◌, ◌<◌, ◌≤◌, nat_lt, Bool, true, false, Option, Some, None, refl, sym, ◌∙◌, ap, subst, arith, nat_tests, none-some, same_Some, put, hart_count, descriptor_count, largest_size, same_or, put_other, put_same, ExecResult, Waits, Ran, Laws, Both, Given, next_full, give_next, descriptors_of, Desk, LoanResult, Lent, Moved, Entry, Lend, LendDirectory, Release, next_used, with_lent, handed, moved_in, lend_last, lend_if, released, serving, more_users, slot_or, Inv, Serves, one_refs, next_is, next_past, loaded, descriptor, first, lent_by, given_as, World, tables_of, Shows, Labels, labelled, Keeps, lent_to, old_directory, lend, lend_directory, release, ActsOnceAt, Super}
 use Rattle.fs_machine.specs.declared.desk.Desk as cards
 use Rattle.fs_machine.specs.declared.slots.Given.TheVariants as given
 use Rattle.fs_machine.specs.Steps as steps
@@ -150,21 +151,21 @@ none_used from fds le none = by (next_used from fds) refl
     by None e = e
     by (Some i) e = let x = next_is from i fds le e in absurd (none-some x.slot (sym (none i x.above x.below) ∙ x.is))
 
-module _ (l : Labels) (laws : Laws (labelled l)) (keeps : Keeps l) (h : ℕ) (lt : h < hart_count) where
+module _ (sizes : Super) (l : Labels) (laws : Laws (labelled sizes.version l)) (keeps : Keeps l) (h : ℕ) (lt : h < hart_count) where
   abbrev W : Type 0
   W = Both World above.World
 
   -- ---- the child let go
 
-  pub release_acts : (child : ℕ) (m : Unit {0} → Option above.Mark) → ActsOnce l h (Release child) m (release child)
+  pub release_acts : (child : ℕ) (m : Unit {0} → Option above.Mark) → ActsOnceAt sizes l h (Release child) m (release child)
   unfolding steps.exec premises.May
   release_acts child m =
-      one_step l laws keeps h (Release child) m (λ c. steps.Reply) (λ c a. a) (λ c a. c) (λ v. tt)
+      one_step sizes l laws keeps h (Release child) m (λ c. steps.Reply) (λ c a. a) (λ c a. c) (λ v. tt)
       (λ v c shows inv base may. (
         tt,
         λ x t.
-            came_quiet l laws keeps h lt (Release child) v tt (tables_of v.real) (released v.seen h child) c shows base may.0 refl
-            (children_are_released h child (tables_of v.real) v.seen (loaded (tables_of v.real)) shows.tables inv (runs_here l laws keeps h lt v may.0) may.1)
+            came_quiet sizes l laws keeps h lt (Release child) v tt (tables_of v.real) (released v.seen h child) c shows base may.0 refl
+            (children_are_released sizes.version h child (tables_of v.real) v.seen (loaded (tables_of v.real)) shows.tables inv (runs_here sizes l laws keeps h lt v may.0) may.1)
             (released_same h child v.seen (child_apart h child v.seen may.0 may.1.0.1)),
       ))
 
@@ -178,38 +179,38 @@ module _ (l : Labels) (laws : Laws (labelled l)) (keeps : Keeps l) (h : ℕ) (lt
         serves.0,
         child_apart h child v.seen free serves.1,
         ap (λ (o : Option cards.Desk). next_full from (descriptors_of o)) d.1 ∙ next_full_is from (descriptor v.seen.desks child) d.0.descriptors le d.2.long d.2.descriptors ∙ none_used from (descriptor v.seen.desks child) le none,
-        may_up_directory l laws keeps h lt v shows inv,
+        may_up_directory sizes l laws keeps h lt v shows inv,
       )
 
-  pub lend_directory_acts : (child : ℕ) (m : ℕ → Option above.Mark) → ActsOnce l h (LendDirectory child) m (lend_directory child)
+  pub lend_directory_acts : (child : ℕ) (m : ℕ → Option above.Mark) → ActsOnceAt sizes l h (LendDirectory child) m (lend_directory child)
   unfolding steps.exec premises.May premises.MayWait
   lend_directory_acts child m =
-      one_step l laws keeps h (LendDirectory child) m (λ c. steps.GiveDescriptor child descriptor_count) (λ c. old_directory) (λ c a. c) (λ v. tt)
+      one_step sizes l laws keeps h (LendDirectory child) m (λ c. steps.GiveDescriptor child descriptor_count) (λ c. old_directory) (λ c a. c) (λ v. tt)
       (λ v c shows inv base may. (
         may_give child descriptor_count v shows inv may.0 may.1.0 (omega arith) (λ i low below. absurd (omega (arith, low, below))),
         λ x t.
-            subst (λ (d : ExecResult Given World). CameTo l laws keeps h (LendDirectory child) v ⊥ d old_directory (λ a. c)) (sym (in_tables_is h (steps.GiveDescriptor child descriptor_count) v.real (λ a o. refl) (λ s. refl) (λ a l. refl) (give_next h child descriptor_count (tables_of v.real))))
-            (from_both l laws keeps h lt (LendDirectory child) v ⊥ old_directory (λ a b. a ≡ given.Directory b) c (give_next h child descriptor_count (tables_of v.real)) (one.exec h above.Room (LendDirectory child) v.seen) refl
-            (directories_are_given h child (tables_of v.real) v.seen (loaded (tables_of v.real)) shows.tables inv (runs_here l laws keeps h lt v may.0) may.1)
+            subst (λ (d : ExecResult Given World). CameTo sizes l laws keeps h (LendDirectory child) v ⊥ d old_directory (λ a. c)) (sym (in_tables_is h (steps.GiveDescriptor child descriptor_count) v.real (λ a o. refl) (λ s. refl) (λ a l. refl) (give_next h child descriptor_count (tables_of v.real))))
+            (from_both sizes l laws keeps h lt (LendDirectory child) v ⊥ old_directory (λ a b. a ≡ given.Directory b) c (give_next h child descriptor_count (tables_of v.real)) (above_exec.exec sizes.version h above.Room (LendDirectory child) v.seen) refl
+            (directories_are_given sizes.version h child (tables_of v.real) v.seen (loaded (tables_of v.real)) shows.tables inv (runs_here sizes l laws keeps h lt v may.0) may.1)
             (λ e. no_wait _ _ e) (λ a b e. ap old_directory e) (λ b u e. ran_same h v.seen (moved_in v.seen h child) u (v.seen.desks child).directory b e (moved_same h child v.seen inv lt)) shows base may.0),
       ))
 
   -- from here on the child has none, of its own or on its way
-  child_none : (child from : ℕ) (w : above.World) → Inv w → one.Asks h (Lend child from) w → (i : ℕ) → from ≤ i → i < descriptor_count → descriptor w.desks child i ≡ None
+  child_none : (child from : ℕ) (w : above.World) → Inv w → rules.Asks sizes.version h (Lend child from) w → (i : ℕ) → from ≤ i → i < descriptor_count → descriptor w.desks child i ≡ None
   child_none child from w inv asks i low below =
       let has = subst (λ (z : Option ℕ). Has z (w.desks child).fds (w.all.cwd child) (w.desks child).directory (w.desks h).directory) asks.1 (inv.lent child h asks.0.0 asks.0.1).has in
       (λ z. first (has.0 i below z) (lent_by w.desks (asks.0.1 z) i)) ∙ asks.2 i low below
 
-  pub lend_acts : (child from : ℕ) (m : LoanResult → Option above.Mark) → ActsOnce l h (Lend child from) m (lend child from)
+  pub lend_acts : (child from : ℕ) (m : LoanResult → Option above.Mark) → ActsOnceAt sizes l h (Lend child from) m (lend child from)
   unfolding steps.exec premises.May premises.MayWait
   lend_acts child from m =
-      one_step l laws keeps h (Lend child from) m (λ c. steps.GiveDescriptor child from) (λ c. lent_to) (λ c a. c) (λ v. tt)
+      one_step sizes l laws keeps h (Lend child from) m (λ c. steps.GiveDescriptor child from) (λ c. lent_to) (λ c a. c) (λ v. tt)
       (λ v c shows inv base may.
       let le = starts_below from (v.seen.desks h).fds may.1.3 in (
         may_give child from v shows inv may.0 may.1.0 le (child_none child from v.seen inv may.1),
         λ x t.
-            subst (λ (d : ExecResult Given World). CameTo l laws keeps h (Lend child from) v ⊥ d lent_to (λ a. c)) (sym (in_tables_is h (steps.GiveDescriptor child from) v.real (λ a o. refl) (λ s. refl) (λ a l. refl) (give_next h child from (tables_of v.real))))
-            (from_both l laws keeps h lt (Lend child from) v ⊥ lent_to (λ a b. a ≡ given_as b) c (give_next h child from (tables_of v.real)) (one.exec h above.Room (Lend child from) v.seen) refl
-            (descriptors_are_given h child from (tables_of v.real) v.seen (loaded (tables_of v.real)) shows.tables inv (runs_here l laws keeps h lt v may.0) may.1 le)
+            subst (λ (d : ExecResult Given World). CameTo sizes l laws keeps h (Lend child from) v ⊥ d lent_to (λ a. c)) (sym (in_tables_is h (steps.GiveDescriptor child from) v.real (λ a o. refl) (λ s. refl) (λ a l. refl) (give_next h child from (tables_of v.real))))
+            (from_both sizes l laws keeps h lt (Lend child from) v ⊥ lent_to (λ a b. a ≡ given_as b) c (give_next h child from (tables_of v.real)) (above_exec.exec sizes.version h above.Room (Lend child from) v.seen) refl
+            (descriptors_are_given sizes.version h child from (tables_of v.real) v.seen (loaded (tables_of v.real)) shows.tables inv (runs_here sizes l laws keeps h lt v may.0) may.1 le)
             (lend_runs h child v.seen (next_used from (v.seen.desks h).fds)) (λ a b e. ap lent_to e ∙ lent_back b) (λ b u e. lend_same h child v.seen (next_used from (v.seen.desks h).fds) b u inv lt (child_apart h child v.seen may.0 may.1.0.1) e) shows base may.0),
       ))

@@ -66,6 +66,7 @@ pub mod WrittenSteps
 pub mod WriteBlocks
 pub mod WriteSteps
 pub mod DataPuts
+pub mod SlotPlaces
 pub mod SlotPuts
 pub mod ClearSteps
 pub mod Spending

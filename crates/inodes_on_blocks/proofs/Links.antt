@@ -1,5 +1,5 @@
 -- Who names whom, in an image whose slots are good and that is one tree.
-use Rattle.inodes_on_blocks.proofs.Vocabulary.{◌≡◌, ◌≢◌, ◌⊎◌, ℕ, zero, suc, ◌-◌, ◌≤◌, Bool, true, false, not, eqb, inl, inr, refl, sym, ◌∙◌, ap, subst, arith, List, [], ◌∷◌, drop, filter, Option, ◌&&◌, All, false≢true, All-head, All-tail, sizes_of, root, gathered, times, is_node, is_live_directory, last, slots_in, slot_numbers, up, named_in, further_in, proper_in, parent_of, names_of, further_names_of, children_of, climb, HasGoodSlots, IsOneTree, node_of, directory_is, up_none, no_directory_zero, Slots, Folders, folder, one_if, up_in, has_up, past, count_in, sum_below, mentions, children, either, eq_self, eq_not, same_or, count_nil, One}
+use Rattle.inodes_on_blocks.proofs.Vocabulary.{◌≡◌, ◌≢◌, ◌⊎◌, ℕ, zero, suc, ◌-◌, ◌≤◌, Bool, true, false, not, eqb, inl, inr, refl, sym, ◌∙◌, ap, subst, arith, List, [], ◌∷◌, drop, filter, Option, ◌&&◌, All, false≢true, All-head, All-tail, sizes_of, root, gathered, times, is_node, is_live_directory, last, slots_in, slot_numbers, up, named_in, further_in, proper_in, parent_of, names_of, further_names_of, children_of, climb, HasGoodSlots, IsOneTree, node_of, directory_is, up_none, no_directory_zero, Slots, Folders, folder, one_if, up_in, has_up, past, count_in, sum_below, mentions, children, either, eq_self, eq_not, same_or, count_nil, version_in}
 use Rattle.inodes_on_blocks.proofs.Lists.{times_nil, times_cons, no_hit, sum_gathered, gathered_same, gathered_le, gathered_none, gathered_only, times_filtered, times_dropped, filter_keeps, filter_drops}
 use Rattle.inodes_on_blocks.proofs.ImageSlots.{Entries, in_tree, up_same, further_le}
 use Rattle.image_tree.proofs.Unnamed.{further_same}
@@ -133,7 +133,7 @@ module _ (disk : List (List ℕ)) (good : HasGoodSlots disk) (one : IsOneTree di
     | inr y ↦
         let zero : eqb 0 c ≡ false = eq_not 0 c (λ e. absurd (omega (arith, e))) in
         let parent : times i (parent_of disk c) ≡ one_if (eqb 0 i) =
-        ap (λ (n : ℕ). times i (filter (λ m. not (eqb m c)) (n ∷ []))) (up_none One disk c y) ∙ kept i 0 c zero in
+        ap (λ (n : ℕ). times i (filter (λ m. not (eqb m c)) (n ∷ []))) (up_none (version_in disk) disk c y) ∙ kept i 0 c zero in
         no_child (eqb c root) (has_up (folders_in disk c) i) (inr (no_up i c y)) ∙ sym (parent ∙ no_hit 0 i (λ e. absurd (omega (arith, e))))
     | inl y ↦ elim (same_or c 1) [
       | inl e ↦

@@ -69,14 +69,14 @@ same_again h b v w s before after = record {
 
 -- ---- the load
 
-module _ (sizes : Super) (l : Labels) (laws : Laws (labelled l)) (keeps : Keeps l) (h : ℕ) (lt : h < hart_count) (B : List l.Step → Type 0) where
+module _ (sizes : Super) (l : Labels) (laws : Laws (labelled sizes.version l)) (keeps : Keeps l) (h : ℕ) (lt : h < hart_count) (B : List l.Step → Type 0) where
   abbrev W : Type 0
   W = Both World above.World
 
   abbrev M : Machine
-  M = joined (labelled l) (below sizes)
+  M = joined (labelled sizes.version l) (below sizes)
 
-  module _ {A : Type 0} (Q : A → List l.Step → W → Type 0) (G : List l.Step → above.World → Type 0) (stable : Stable (labelled l) (below sizes) laws (below_laws sizes l keeps) h B G) where
+  module _ {A : Type 0} (Q : A → List l.Step → W → Type 0) (G : List l.Step → above.World → Type 0) (stable : Stable (labelled sizes.version l) (below sizes) laws (below_laws sizes l keeps) h B G) where
     -- A hart that has an inode's lock goes on with what was loaded of it, or with its record, whose names aren't
     -- indexed.
     pub s-load : (n : ℕ) (content : Option Loaded) (c : Carry) (k : Loaded → P M A) (j : ℕ) (es : List l.Step) (w : W) → G es w.seen → Stands sizes h w.real w.seen c → lock_holder n (tables_of w.real) ≡ Some h → n < sizes.ninodes

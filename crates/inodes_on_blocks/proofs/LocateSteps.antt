@@ -67,14 +67,14 @@ abbrev pub locate_steps : Bool → ℕ → ℕ
 locate_steps true j = take_steps (look_steps j)
 locate_steps false j = take_steps j
 
-module _ (sizes : Super) (l : Labels) (laws : Laws (labelled l)) (keeps : Keeps l) (h : ℕ) (lt : h < hart_count) (B : List l.Step → Type 0) where
+module _ (sizes : Super) (l : Labels) (laws : Laws (labelled sizes.version l)) (keeps : Keeps l) (h : ℕ) (lt : h < hart_count) (B : List l.Step → Type 0) where
   abbrev W : Type 0
   W = Both World above.World
 
   abbrev M : Machine
-  M = joined (labelled l) (below sizes)
+  M = joined (labelled sizes.version l) (below sizes)
 
-  module _ {A : Type 0} (Q : A → List l.Step → W → Type 0) (G : List l.Step → above.World → Type 0) (stable : Stable (labelled l) (below sizes) laws (below_laws sizes l keeps) h B G)
+  module _ {A : Type 0} (Q : A → List l.Step → W → Type 0) (G : List l.Step → above.World → Type 0) (stable : Stable (labelled sizes.version l) (below sizes) laws (below_laws sizes l keeps) h B G)
       (n : ℕ) (changes : (fs : List l.Step) (g : above.World) → G fs g → Inv g → IsChanging h n g) (c : Carry) (o : Option Node) (x : Node) (s : Spent) (bitmap : s.bitmap ≡ true) (far : Bool) (k z was most : ℕ) (small : size s + most < most_recorded)
       (f : Located → P M A) (j : ℕ) (rest : (a : Located) (v : W) (fs : List l.Step) → Found sizes h n (G fs) c o x s far k z was most a v → Wp M h B Q (f a) j fs v) where
     abbrev In : Dinode → List ℕ → List l.Step → W → Type 0

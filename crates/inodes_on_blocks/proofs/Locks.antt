@@ -3,7 +3,7 @@ use Rattle.inodes_on_blocks.proofs.Vocabulary.{◌≡◌, ◌≢◌, ℕ, ◌<�
 use Rattle.sleep_lock.specs.SleepLock.{guard_of}
 use Rattle.fs_machine.proofs.Places.{Found}
 use Rattle.fs_machine.proofs.Locking.{slot_at}
-use Rattle.inode_machine.specs.VersionOne.{seen_in}
+use Rattle.inode_machine.specs.Inodes.{seen_in}
 use Rattle.inode_machine.specs.World.{World}
 use Rattle.inodes_on_blocks.specs.ShownTables.{Shows}
 use Rattle.inodes_on_blocks.proofs.Places.{locks_set}
@@ -93,11 +93,11 @@ module _ (h n k : ℕ) (t : TablesState) (w : World) (load : ℕ → Option Load
       by_slot at = by_inside at.0 at.1 at.0.inside refl at.2.1
 
 pub locks_are_taken : LocksAreTaken
-locks_are_taken h n looking t w load shows lt =
+locks_are_taken version h n looking t w load shows lt =
     let p = place_there n t w load shows lt in
     by_lock h n p.0 t w load shows p.1 _
-    (λ waits g out. both_wait _ _ _ _ waits (ap (lock_if h n (seen_in n looking (w.disk n)) w (locked h n w)) out))
-    (λ u ran free after. both_ran _ _ _ _ (load n) (seen_in n looking (w.disk n)) u (locked h n w) ran (ap (lock_if h n (seen_in n looking (w.disk n)) w (locked h n w)) free) (refl, refl) after)
+    (λ waits g out. both_wait _ _ _ _ waits (ap (lock_if h n (seen_in version n looking (w.disk n)) w (locked h n w)) out))
+    (λ u ran free after. both_ran _ _ _ _ (load n) (seen_in version n looking (w.disk n)) u (locked h n w) ran (ap (lock_if h n (seen_in version n looking (w.disk n)) w (locked h n w)) free) (refl, refl) after)
 
 -- ---- given back
 

@@ -1,5 +1,5 @@
 -- What a search of a directory's blocks finds is what its node has: under a name, and past its first two entries.
-use Rattle.inodes_on_blocks.proofs.Vocabulary.{◌≡◌, ◌≢◌, ⊎_elim, ℕ, zero, suc, ◌-◌, ◌*◌, ◌/◌, ◌<◌, ◌≤◌, nat_lt, ◌&&◌, ◌||◌, not, ℤ, pos, Bool, true, false, List, [], ◌∷◌, length, drop, get_or, Option, Some, None, is_some, refl, sym, ◌∙◌, ap, subst, arith, if◌then◌else◌, cases_lt, le-leb, get_or_append_left, get_or-append_right, get_or-map, none-some, Free, Used, Found, is_sought, number_of, IsFirst, Aim, Named, block_count, slot_count, is_used, Dinode, Dirent, block_len, inode_of, is_free, content_block, slot_on, first_slots, HoldsAt, HasContent, entry_of, size_in, type_in, Slot, Node, NodeKind, Directory, File, Device, any_used, Name, first_slot, live_directory, look, same_name, same_pointwise, is_empty_kind, is_empty_node, has_name, IsFirstNamed, IsKnown, number_found, learned, first_slots_by, slot_by, dirent_len, most_blocks}
+use Rattle.inodes_on_blocks.proofs.Vocabulary.{◌≡◌, ◌≢◌, ⊎_elim, ℕ, zero, suc, ◌+◌, ◌-◌, ◌*◌, ◌/◌, ◌<◌, ◌≤◌, nat_lt, ◌&&◌, ◌||◌, not, ℤ, pos, Bool, true, false, List, [], ◌∷◌, length, map, drop, get_or, Option, Some, None, is_some, refl, sym, ◌∙◌, ap, subst, arith, if◌then◌else◌, cases_lt, le-leb, get_or_append_left, get_or-append_right, get_or-map, none-some, Free, Used, Found, is_sought, number_of, IsFirst, Aim, Named, block_count, slot_count, is_used, Super, Version, Dinode, Dirent, sizes_of, block_len, inode_of, is_free, content_block, HoldsAt, HasContent, entry_of, size_in, type_in, Slot, Node, NodeKind, Directory, File, Device, any_used, Name, first_slot, live_directory, look, same_name, same_pointwise, is_empty_kind, is_empty_node, has_name, IsFirstNamed, IsKnown, number_found, learned, first_slots_by as first_slots, slot_by as slot_on, largest_size, most_slots, dirents_per_block_of, dirent_len_of, most_blocks}
 use Rattle.directory.proofs.Indexed.{searched, searched_right}
 use Rattle.directory.specs.Laws.{AreSlots, slot_at}
 use Rattle.directory.specs.Programs.{Entry, Searched, is_number, is_positive, is_directory, is_live_directory}
@@ -7,6 +7,7 @@ use Rattle.directory.specs.Slots.{is_named}
 use Rattle.fs_machine.specs.InMemory.{IndexState}
 use Rattle.inodes_on_blocks.specs.Indexes.{IsIndexOf, slot_read}
 use Rattle.inodes_on_blocks.proofs.ImageNodes.{length_slots}
+use Rattle.image_versions.proofs.Places.{count_slots, hold_most, in_block, in_range, in_their_content, lie_apart, take_blocks, whole_blocks}
 use Rattle.std.proofs.lemmas.List.{get_or_past}
 use Rattle.plain_tree.specs.Steps as steps
 use Rattle.plain_tree.specs.Tree as tree
@@ -122,18 +123,30 @@ is_entry (Some s) e = none-some (Used s.number s.name) (sym e)
 
 -- ---- an inode that holds a directory
 
-read_slots : (disk : List (List ℕ)) (d : Dinode) (n s : ℕ) (x : Option Dirent) → s < n → get_or (first_slots disk d n) s x ≡ slot_on disk d s
-unfolding first_slots_by
-read_slots disk d zero s x lt = absurd (omega (arith, lt))
-read_slots disk d (suc n) s x lt =
-    let long = length_slots disk d n in
+-- no more slots fit in a content
+pub slots_few : (version : Version) (n : ℕ) → dirent_len_of version * n ≤ largest_size → n ≤ most_slots version
+slots_few version n fits =
     ⊎_elim
-    (λ (low : s < n). get_or_append_left (first_slots disk d n) (slot_on disk d n ∷ []) x s (omega (arith, long, low)) ∙ read_slots disk d n s x low)
+    (λ (more : most_slots version < n).
+    let wide = (in_range version).2 in
+    let all = hold_most version in
+    let past = lie_apart version (most_slots version) n more in
+    absurd (omega (arith, fits, wide, all, past)))
+    (λ (few : n ≤ most_slots version). few)
+    (cases_lt (most_slots version) n)
+
+read_slots : (version : Version) (disk : List (List ℕ)) (d : Dinode) (n s : ℕ) (x : Option Dirent) → s < n → get_or (first_slots version disk d n) s x ≡ slot_on version disk d s
+unfolding first_slots
+read_slots version disk d zero s x lt = absurd (omega (arith, lt))
+read_slots version disk d (suc n) s x lt =
+    let long = length_slots version disk d n in
+    ⊎_elim
+    (λ (low : s < n). get_or_append_left (first_slots version disk d n) (slot_on version disk d n ∷ []) x s (omega (arith, long, low)) ∙ read_slots version disk d n s x low)
     (λ (high : n ≤ s).
     let last : s ≡ n = omega (arith, lt, high) in
-    let at : s - length (first_slots disk d n) ≡ 0 = omega (arith, long, last) in
-    get_or-append_right (first_slots disk d n) (slot_on disk d n ∷ []) (length (first_slots disk d n)) s x refl (omega (arith, long, last))
-    ∙ ap (λ (k : ℕ). get_or (slot_on disk d n ∷ []) k x) at ∙ ap (slot_on disk d) (sym last))
+    let at : s - length (first_slots version disk d n) ≡ 0 = omega (arith, long, last) in
+    get_or-append_right (first_slots version disk d n) (slot_on version disk d n ∷ []) (length (first_slots version disk d n)) s x refl (omega (arith, long, last))
+    ∙ ap (λ (k : ℕ). get_or (slot_on version disk d n ∷ []) k x) at ∙ ap (slot_on version disk d) (sym last))
     (cases_lt s n)
 
 and_swap : (a b : Bool) → (a && b) ≡ (b && a)
@@ -149,9 +162,12 @@ no_directory count h = by (nat_lt 0 count) h
     by true h = cc
     by false h = cc
 
-module _ (disk : List (List ℕ)) (owner : ℕ → ℕ) (i : ℕ) (v : Node) (holds : HoldsAt disk owner i (Some v)) (used : is_free (inode_of disk i) ≡ false) where
+module _ (sizes : Super) (disk : List (List ℕ)) (at : sizes_of disk ≡ sizes) (owner : ℕ → ℕ) (i : ℕ) (v : Node) (holds : HoldsAt disk owner i (Some v)) (used : is_free (inode_of disk i) ≡ false) where
   abbrev d : Dinode
   d = inode_of disk i
+
+  abbrev version : Version
+  version = sizes.version
 
   abbrev content : ℕ → List ℕ
   content k = content_block disk d k
@@ -172,24 +188,27 @@ module _ (disk : List (List ℕ)) (owner : ℕ → ℕ) (i : ℕ) (v : Node) (ho
       ∙ and_swap (tree.is_directory v.kind) (nat_lt 0 v.count)
 
   -- its blocks show its slots
-  pub shown : (slots : List (Option Slot)) → v.kind ≡ Directory slots → AreRead (slot_at content) slots × (slot_count d ≡ length slots)
-  unfolding slot_by
+  pub shown : (slots : List (Option Slot)) → v.kind ≡ Directory slots → AreRead (slot_at version content) slots × (slot_count version d ≡ length slots)
+  unfolding slot_on
   shown slots is =
-      let size : d.size ≡ dirent_len * length slots = holds.inode.size ∙ ap size_in is in
-      let has : HasContent disk d (Directory slots) = subst (HasContent disk d) is holds.content in
-      let limit = (holds.room used).limit in (
+      let size : d.size ≡ dirent_len_of version * length slots = subst (λ (z : Super). d.size ≡ size_in z.version v.kind) at holds.inode.size ∙ ap (size_in version) is in
+      let has : first_slots version disk d (d.size / dirent_len_of version) ≡ map entry_of slots =
+      subst (λ (z : Super). first_slots z.version disk d (d.size / dirent_len_of z.version) ≡ map entry_of slots) at (subst (HasContent disk d) is holds.content) in
+      let many : d.size / dirent_len_of version ≡ length slots = ap (λ (n : ℕ). n / dirent_len_of version) size ∙ (count_slots version (length slots)).0 in
+      let limit = (holds.room used).limit in
+      let few : length slots ≤ most_slots version = slots_few version (length slots) (omega (arith, size, limit)) in (
         λ s lt.
-            sym (read_slots disk d (d.size / dirent_len) s None (omega (arith, size, lt))) ∙ ap (λ (xs : List (Option Dirent)). get_or xs s None) has ∙ get_or-map entry_of slots s None None lt,
-        omega (arith, size, limit),
+            sym (read_slots version disk d (d.size / dirent_len_of version) s None (omega (arith, many, lt))) ∙ ap (λ (xs : List (Option Dirent)). get_or xs s None) has ∙ get_or-map entry_of slots s None None lt,
+        omega (arith, many, few),
       )
 
   -- they are the slots that the node has
   pub read_is : (slots : List (Option Slot)) → v.kind ≡ Directory slots → AreRead (slot_read (Some v)) slots
   read_is slots is s lt = ap (λ (k : NodeKind). entry_of (get_or (slots_of k) s None)) is
 
-  pub are_slots : (slots : List (Option Slot)) → v.kind ≡ Directory slots → AreSlots (slot_count d) content (slot_read (Some v))
+  pub are_slots : (slots : List (Option Slot)) → v.kind ≡ Directory slots → AreSlots version (slot_count version d) content (slot_read (Some v))
   are_slots slots is =
-      let same : slot_count d ≡ length slots = (shown slots is).1 in
+      let same : slot_count version d ≡ length slots = (shown slots is).1 in
       record {
         shown = λ s lt. (shown slots is).0 s (omega (arith, lt, same)) ∙ sym (read_is slots is s (omega (arith, lt, same)));
         entries = λ s lt. is_entry (get_or (slots_of v.kind) s None);
@@ -197,23 +216,23 @@ module _ (disk : List (List ℕ)) (owner : ℕ → ℕ) (i : ℕ) (v : Node) (ho
       }
 
   -- by an index that is right
-  module _ (index : IndexState) (right : IsIndexOf index (Some v)) where
+  module _ (index : IndexState) (right : IsIndexOf version index (Some v)) where
     abbrev pub search_finds : Aim → Searched
-    search_finds aim = searched aim (record { inode = d; index = index }) content
+    search_finds aim = searched version aim (record { inode = d; index = index }) content
 
     pub is_first : (aim : Aim) (slots : List (Option Slot)) → v.kind ≡ Directory slots → IsFirst aim (slot_read (Some v)) (length slots) (search_finds aim).found
     is_first aim slots is =
         subst (λ (n : ℕ). IsFirst aim (slot_read (Some v)) n (search_finds aim).found) (shown slots is).1
-        (searched_right content (record { inode = d; index = index }) (slot_read (Some v)) (are_slots slots is) right aim).0
+        (searched_right version content (record { inode = d; index = index }) (slot_read (Some v)) (are_slots slots is) right aim).0
 
     -- it stays right with the blocks that were read
-    index_of : (aim : Aim) (slots : List (Option Slot)) → v.kind ≡ Directory slots → IsIndexOf (search_finds aim).index (Some v)
-    index_of aim slots is = (searched_right content (record { inode = d; index = index }) (slot_read (Some v)) (are_slots slots is) right aim).1
+    index_of : (aim : Aim) (slots : List (Option Slot)) → v.kind ≡ Directory slots → IsIndexOf version (search_finds aim).index (Some v)
+    index_of aim slots is = (searched_right version content (record { inode = d; index = index }) (slot_read (Some v)) (are_slots slots is) right aim).1
 
-    pub still_right : (aim : Aim) → tree.is_directory v.kind ≡ true → IsIndexOf (search_finds aim).index (Some v)
+    pub still_right : (aim : Aim) → tree.is_directory v.kind ≡ true → IsIndexOf version (search_finds aim).index (Some v)
     still_right aim directory = by v.kind refl
       where
-        by : (k : NodeKind) → v.kind ≡ k → IsIndexOf (search_finds aim).index (Some v)
+        by : (k : NodeKind) → v.kind ≡ k → IsIndexOf version (search_finds aim).index (Some v)
         by (Directory slots) is = index_of aim slots is
         by (File bytes) is = let no : false ≡ true = ap tree.is_directory (sym is) ∙ directory in cc
         by (Device major minor size) is = let no : false ≡ true = ap tree.is_directory (sym is) ∙ directory in cc
@@ -265,9 +284,14 @@ module _ (disk : List (List ℕ)) (owner : ℕ → ℕ) (i : ℕ) (v : Node) (ho
       by (Device major minor size) is = ap is_empty_kind (sym is)
 
   -- each block that is searched has a part of the content
-  pub block_within : (k : ℕ) → k < block_count d → block_len * k < d.size
-  block_within k lt = omega (arith, lt)
+  pub block_within : (k : ℕ) → k < block_count version d → block_len * k < d.size
+  block_within k lt =
+      let wide = (in_range version).4 in
+      let here = (in_block version k 0 (omega (arith, wide))).0 in
+      let low = (take_blocks version (slot_count version d) k).0 lt in
+      let within = (in_their_content version (dirents_per_block_of version * k + 0) d.size (omega (arith, low))).1 in
+      subst (λ (n : ℕ). block_len * n < d.size) here within
 
 -- a directory's blocks are at most as many as a content has
-pub few_blocks : (d : Dinode) → block_count d ≤ most_blocks
-few_blocks d = omega arith
+pub few_blocks : (version : Version) (d : Dinode) → block_count version d ≤ most_blocks
+few_blocks version d = (whole_blocks version).1 (slot_count version d) (omega arith)

@@ -1,6 +1,5 @@
 -- What an operation above is marked with changes nothing that the machine below shows.
-use Rattle.inode_machine.specs.VersionOne as one
-use Rattle.inodes_on_blocks.proofs.Vocabulary.{inl, inr, ◌≡◌, ℕ, ◌<◌, Bool, true, false, List, [], ◌∷◌, Option, Some, None, refl, sym, ◌∙◌, ap, subst, if◌then◌else◌, Cause, Node, Action, OpenStep as Open, Truncate, ReadStep as Read, WritePart, Find, Bump, EnterStep as Enter, Unbump, Unlink, Mkdir, Chdir, Dup, Close, Fstat, Inherit, Hold, OpenFile, Name, Tree, put, look, elements, resolve, parent, creates, has_room, lowest, file_at, effect_with, effect_by, refusal, refusal_with, path_of, hart_count, any_same, either, Walk, Move, Begin, Look, GiveUpWalk, OwnMove as Own, Desk, Mark, Makes, Frees, Orphans, Fills, Mends, Spoils, type_of, is_at, is_dead, put_elim, marked, made_by, with_made, with_opened, with_noted, with_left, spoiled, act_all, new_id, unheld, unmoved, unopened, TablesState, descriptor, first, lent_by, place_with, loaded, Ghost, AreOnBlocks, log_of, tables_of, Shows, if_joined, ghost_of, on_blocks, Loaded, IsIndexOf}
+use Rattle.inodes_on_blocks.proofs.Vocabulary.{inl, inr, ◌≡◌, ℕ, ◌<◌, Bool, true, false, List, [], ◌∷◌, Option, Some, None, refl, sym, ◌∙◌, ap, subst, if◌then◌else◌, Cause, Node, Action, OpenStep as Open, Truncate, ReadStep as Read, WritePart, Find, Bump, EnterStep as Enter, Unbump, Unlink, Mkdir, Chdir, Dup, Close, Fstat, Inherit, Hold, OpenFile, Name, Tree, put, look, elements, resolve, parent, creates, has_room, lowest, file_at, effect_with, refusal, refusal_with, path_of, hart_count, any_same, either, Walk, Move, Begin, Look, GiveUpWalk, OwnMove as Own, Desk, Mark, Makes, Frees, Orphans, Fills, Mends, Spoils, type_of, is_at, is_dead, put_elim, marked, made_by, with_made, with_opened, with_noted, with_left, spoiled, act_all, new_id, unheld, unmoved, unopened, TablesState, descriptor, first, lent_by, place_with, loaded, Ghost, AreOnBlocks, log_of, tables_of, Shows, if_joined, ghost_of, on_blocks, Loaded, IsIndexOf, Version}
 use Rattle.plain_tree.specs.Steps as plain
 use Rattle.inode_machine.specs.World.{World}
 use Rattle.inode_machine.specs.Marks as marks
@@ -70,39 +69,39 @@ dir_size : (t : Tree) (h : ℕ) (o : Option ℕ) → (plain.at_dir t h o).ninode
 dir_size t h None = refl
 dir_size t h (Some n) = refl
 
-effect_size : (t : Tree) (h : ℕ) (s : Action) (res : Option ℕ) (par : Option (ℕ × Name)) (new id : ℕ) → (effect_with t h s res par new id).ninodes ≡ t.ninodes
-unfolding effect_by
-effect_size t h (Open path flags) res par new id = elim (either (creates flags)) [ inl y ↦ rw y (opened_new_size t h id flags par new) | inr fails ↦ rw fails (opened_at_size t h id flags res new) ]
-effect_size t h (Truncate fd) res par new id = truncated_size t (file_at t h fd)
-effect_size t h (Read fd n) res par new id = moved_size t (t.fds h fd) _
-effect_size t h (WritePart fd b) res par new id = wrote_size t h fd b
-effect_size t h (Find old) res par new id = held_size t h res
-effect_size t h Bump res par new id = at_hold_size t (t.holds h) plain.raised
-effect_size t h (Enter name) res par new id = enter_size t par (t.holds h)
-effect_size t h Unbump res par new id = at_hold_size t (t.holds h) plain.lowered
-effect_size t h (Unlink path) res par new id = removed_size t par
-effect_size t h (Mkdir path) res par new id = made_size t par new
-effect_size t h (Chdir path) res par new id = dir_size t h res
-effect_size t h (Dup fd) res par new id = refl
-effect_size t h (Close fd) res par new id = refl
-effect_size t h (Fstat fd) res par new id = refl
-effect_size t h (Inherit child) res par new id = refl
+effect_size : (version : Version) (t : Tree) (h : ℕ) (s : Action) (res : Option ℕ) (par : Option (ℕ × Name)) (new id : ℕ) → (effect_with version t h s res par new id).ninodes ≡ t.ninodes
+unfolding effect_with
+effect_size version t h (Open path flags) res par new id = elim (either (creates flags)) [ inl y ↦ rw y (opened_new_size t h id flags par new) | inr fails ↦ rw fails (opened_at_size t h id flags res new) ]
+effect_size version t h (Truncate fd) res par new id = truncated_size t (file_at t h fd)
+effect_size version t h (Read fd n) res par new id = moved_size t (t.fds h fd) _
+effect_size version t h (WritePart fd b) res par new id = wrote_size t h fd b
+effect_size version t h (Find old) res par new id = held_size t h res
+effect_size version t h Bump res par new id = at_hold_size t (t.holds h) plain.raised
+effect_size version t h (Enter name) res par new id = enter_size t par (t.holds h)
+effect_size version t h Unbump res par new id = at_hold_size t (t.holds h) plain.lowered
+effect_size version t h (Unlink path) res par new id = removed_size t par
+effect_size version t h (Mkdir path) res par new id = made_size t par new
+effect_size version t h (Chdir path) res par new id = dir_size t h res
+effect_size version t h (Dup fd) res par new id = refl
+effect_size version t h (Close fd) res par new id = refl
+effect_size version t h (Fstat fd) res par new id = refl
+effect_size version t h (Inherit child) res par new id = refl
 
-act_size : (k : Option Cause) (b : Tree) (h : ℕ) (s : Action) (res : Option ℕ) (par : Option (ℕ × Name)) (new id : ℕ) → (act_all k b h s res par new id).ninodes ≡ b.ninodes
-act_size (Some k) b h s res par new id = refl
-act_size None b h s res par new id = effect_size b h s res par new id
+act_size : (version : Version) (k : Option Cause) (b : Tree) (h : ℕ) (s : Action) (res : Option ℕ) (par : Option (ℕ × Name)) (new id : ℕ) → (act_all version k b h s res par new id).ninodes ≡ b.ninodes
+act_size version (Some k) b h s res par new id = refl
+act_size version None b h s res par new id = effect_size version b h s res par new id
 
-acts_size : (b : Tree) (h : ℕ) (s : Action) (res : Option ℕ) (par : Option (ℕ × Name)) (new id : ℕ) → (one.acts b h s res par new id).all.ninodes ≡ b.ninodes
-acts_size b h s res par new id = act_size (refusal_with b h s res par) b h s res par new id
+acts_size : (version : Version) (b : Tree) (h : ℕ) (s : Action) (res : Option ℕ) (par : Option (ℕ × Name)) (new id : ℕ) → (marks.acts version b h s res par new id).all.ninodes ≡ b.ninodes
+acts_size version b h s res par new id = act_size version (refusal_with version b h s res par) b h s res par new id
 
-begun_size : (b : Tree) (h : ℕ) (s : Action) (es : List Name) (new id : ℕ) → (one.begun b h s es new id).all.ninodes ≡ b.ninodes
-begun_size b h s [] new id = acts_size b h s _ None new id
-begun_size b h s (e ∷ es) new id = refl
+begun_size : (version : Version) (b : Tree) (h : ℕ) (s : Action) (es : List Name) (new id : ℕ) → (marks.begun version b h s es new id).all.ninodes ≡ b.ninodes
+begun_size version b h s [] new id = acts_size version b h s _ None new id
+begun_size version b h s (e ∷ es) new id = refl
 
-looked_size : (b : Tree) (h : ℕ) (k : Walk) (es : List Name) (r : Option ℕ) (new id : ℕ) → (one.looked b h k es r new id).all.ninodes ≡ b.ninodes
-looked_size b h k [] r new id = acts_size b h k.step r (Some (k.at, k.next)) new id
-looked_size b h k (e ∷ es) None new id = acts_size b h k.step None None new id
-looked_size b h k (e ∷ es) (Some n) new id = refl
+looked_size : (version : Version) (b : Tree) (h : ℕ) (k : Walk) (es : List Name) (r : Option ℕ) (new id : ℕ) → (marks.looked version b h k es r new id).all.ninodes ≡ b.ninodes
+looked_size version b h k [] r new id = acts_size version b h k.step r (Some (k.at, k.next)) new id
+looked_size version b h k (e ∷ es) None new id = acts_size version b h k.step None None new id
+looked_size version b h k (e ∷ es) (Some n) new id = refl
 
 refused_size : (b : Tree) (h : ℕ) (s : Action) → (marks.refused_all b h s).ninodes ≡ b.ninodes
 refused_size b h Bump = refl
@@ -125,12 +124,12 @@ own_size : (k : Option Cause) (b : Tree) (h : ℕ) (s : Action) (m : marks.Made)
 own_size (Some k) b h s m same = refused_size b h s
 own_size None b h s m same = same
 
-made_by_size : (b : Tree) (h id : ℕ) (k : Option Walk) (m : Move) → (made_by b h id k m).all.ninodes ≡ b.ninodes
-made_by_size b h id k (Begin s new) = begun_size b h s (elements (path_of s)) new id
-made_by_size b h id None (Look new) = refl
-made_by_size b h id (Some k) (Look new) = looked_size b h k k.rest (look b.nodes k.at k.next) new id
-made_by_size b h id k (GiveUpWalk s) = refl
-made_by_size b h id k (Own s new) = own_size (refusal b h s) b h s (one.acts b h s (resolve b h (path_of s)) (parent b h (path_of s)) new id) (acts_size b h s (resolve b h (path_of s)) (parent b h (path_of s)) new id)
+made_by_size : (version : Version) (b : Tree) (h id : ℕ) (k : Option Walk) (m : Move) → (made_by version b h id k m).all.ninodes ≡ b.ninodes
+made_by_size version b h id k (Begin s new) = begun_size version b h s (elements version (path_of s)) new id
+made_by_size version b h id None (Look new) = refl
+made_by_size version b h id (Some k) (Look new) = looked_size version b h k k.rest (look b.nodes k.at k.next) new id
+made_by_size version b h id k (GiveUpWalk s) = refl
+made_by_size version b h id k (Own s new) = own_size (refusal version b h s) b h s (marks.acts version b h s (resolve version b h (path_of s)) (parent version b h (path_of s)) new id) (acts_size version b h s (resolve version b h (path_of s)) (parent version b h (path_of s)) new id)
 
 unopened_size : (t : Tree) (h : ℕ) (o : Option ℕ) → (unopened t h o).ninodes ≡ t.ninodes
 unopened_size t h None = refl
@@ -188,9 +187,9 @@ left_desk : (desks : ℕ → Desk) (h : ℕ) (o : Option ℕ) (g : ℕ) → Same
 left_desk desks h None g = same_desk (desks g)
 left_desk desks h (Some d) g = put_desk desks h (record (desks h) { left = Some d }) (record { fds = refl; hand = refl; joined = refl; directory = refl; lent = refl; lender = refl }) g
 
-made_same : (h : ℕ) (m : Move) (w : World) → SameCode w (with_made h (made_by w.all h (new_id w) (w.harts h).walk m) w)
-made_same h m w =
-    let x = made_by w.all h (new_id w) (w.harts h).walk m in
+made_same : (version : Version) (h : ℕ) (m : Move) (w : World) → SameCode w (with_made h (made_by version w.all h (new_id w) (w.harts h).walk m) w)
+made_same version h m w =
+    let x = made_by version w.all h (new_id w) (w.harts h).walk m in
     let a = with_opened w.desks h (lowest (w.all.fds h)) x.opened in
     let b = with_noted w.all a h x.found in
     record {
@@ -200,7 +199,7 @@ made_same h m w =
       files = refl;
       keeper = refl;
       desks = λ g. then_desk (w.desks g) (b g) (with_left b h x.left g) (then_desk (w.desks g) (a g) (b g) (opened_desk w.desks h (lowest (w.all.fds h)) x.opened g) (noted_desk w.all a h x.found g)) (left_desk b h x.left g);
-      size = made_by_size w.all h (new_id w) (w.harts h).walk m;
+      size = made_by_size version w.all h (new_id w) (w.harts h).walk m;
     }
 
 full_same : (h : ℕ) (w : World) → SameCode w (spoiled h w)
@@ -209,13 +208,13 @@ full_same h w = record { disk = refl; lock = refl; refs = refl; files = refl; ke
 then_same : (u v w : World) → SameCode u v → SameCode v w → SameCode u w
 then_same u v w a b = record { disk = b.disk ∙ a.disk; lock = b.lock ∙ a.lock; refs = b.refs ∙ a.refs; files = b.files ∙ a.files; keeper = b.keeper ∙ a.keeper; desks = λ g. then_desk (u.desks g) (v.desks g) (w.desks g) (a.desks g) (b.desks g); size = b.size ∙ a.size }
 
-pub marked_same : (h : ℕ) (m : Option Mark) (w : World) → SameCode w (marked h m w)
-marked_same h None w = record { disk = refl; lock = refl; refs = refl; files = refl; keeper = refl; desks = λ g. same_desk (w.desks g); size = refl }
-marked_same h (Some (Makes v)) w = made_same h v w
-marked_same h (Some (Frees n)) w = record { disk = refl; lock = refl; refs = refl; files = refl; keeper = refl; desks = λ g. same_desk (w.desks g); size = refl }
-marked_same h (Some (Orphans n)) w = record { disk = refl; lock = refl; refs = refl; files = refl; keeper = refl; desks = λ g. same_desk (w.desks g); size = refl }
-marked_same h (Some Fills) w = full_same h w
-marked_same h (Some Mends) w = record {
+pub marked_same : (version : Version) (h : ℕ) (m : Option Mark) (w : World) → SameCode w (marked version h m w)
+marked_same version h None w = record { disk = refl; lock = refl; refs = refl; files = refl; keeper = refl; desks = λ g. same_desk (w.desks g); size = refl }
+marked_same version h (Some (Makes v)) w = made_same version h v w
+marked_same version h (Some (Frees n)) w = record { disk = refl; lock = refl; refs = refl; files = refl; keeper = refl; desks = λ g. same_desk (w.desks g); size = refl }
+marked_same version h (Some (Orphans n)) w = record { disk = refl; lock = refl; refs = refl; files = refl; keeper = refl; desks = λ g. same_desk (w.desks g); size = refl }
+marked_same version h (Some Fills) w = full_same h w
+marked_same version h (Some Mends) w = record {
   disk = refl;
   lock = refl;
   refs = refl;
@@ -224,9 +223,9 @@ marked_same h (Some Mends) w = record {
   desks = put_desk w.desks h (record (w.desks h) { opening = None; left = None; full = true }) (record { fds = refl; hand = refl; joined = refl; directory = refl; lent = refl; lender = refl });
   size = unheld_size (unmoved (unopened w.all h (w.desks h).opening) h (w.desks h).left) h (w.all.holds h) ∙ unmoved_size (unopened w.all h (w.desks h).opening) h (w.desks h).left ∙ unopened_size w.all h (w.desks h).opening;
 }
-marked_same h (Some (Spoils s)) w =
-    let u = with_made h (made_by w.all h (new_id w) (w.harts h).walk (Own s 0)) w in
-    then_same w u (spoiled h u) (made_same h (Own s 0) w) (full_same h u)
+marked_same version h (Some (Spoils s)) w =
+    let u = with_made h (made_by version w.all h (new_id w) (w.harts h).walk (Own s 0)) w in
+    then_same w u (spoiled h u) (made_same version h (Own s 0) w) (full_same h u)
 
 -- ---- what is shown
 
@@ -277,7 +276,7 @@ shows_marked r v w s shows = record {
     seen = shows.loads.seen;
     dead = λ n lt free loose dead. shows.loads.dead n (subst (λ (z : ℕ). 0 < z) (λ z. s.refs z n) lt) ((λ z. sym s.lock z n) ∙ free) ((λ z. sym s.keeper z n) ∙ loose) (ap (λ (f : ℕ → Option Node). is_dead (f n)) (sym s.disk) ∙ dead);
     typed = λ n e. shows.loads.typed n ((λ z. sym s.disk z n) ∙ e);
-    indexed = λ n d e. subst (IsIndexOf d.index) (λ z. sym s.disk z n) (shows.loads.indexed n d e);
+    indexed = λ n d e. subst (IsIndexOf (log_of r).sizes.version d.index) (λ z. sym s.disk z n) (shows.loads.indexed n d e);
   };
   offsets = λ k e at. shows.offsets k e ((λ z. sym s.files z k) ∙ at);
 }

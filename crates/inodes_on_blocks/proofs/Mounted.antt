@@ -5,7 +5,7 @@ use Rattle.group_log.proofs.Fresh.{fresh_good}
 use Rattle.plain_tree.specs.Tree.{is_directory, is_live, is_named}
 use Rattle.tree_laws.specs.WellFormed as trees
 use Rattle.image_tree.specs.Inodes as inodes
-use Rattle.image_tree.specs.VersionOne.{kind_of}
+use Rattle.image_tree.specs.Images.{kind_of}
 use Rattle.inodes_on_blocks.proofs.Basics.{image_at_rest, dead_node, live_node, ninodes_are, no_node, nodes_at, tree_well, other_refs, fresh_tables_show, nothing_loaded, nothing_locked, mounted_ghost, mounted_on, image_shown}
 use Rattle.inode_machine.specs.World as above
 use Rattle.inodes_on_blocks.specs.ShownTables as tables

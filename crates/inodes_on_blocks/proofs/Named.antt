@@ -1,5 +1,4 @@
 -- What descriptors name: doubled, shut, asked for; and the directory.
-use Rattle.inode_machine.specs.VersionOne as one
 use Rattle.inodes_on_blocks.proofs.Vocabulary.{◌≡◌, inl, inr, ℕ, ◌+◌, ◌<◌, nat_lt, Bool, true, false, if◌then◌else◌, Option, Some, None, refl, sym, ◌∙◌, ap, subst, arith, List, slice_get, slice_set, option_map, none-some, Ran, put, lowest, has_room, hart_count, descriptor_count, same_or, put_same, put_other, FilePlace, TablesState, place_named, file_named, file_in, open_at, with_desk, unlock_inode, settle_inode, settled, directory_of, with_directory, refusal_of, mode_refuses, lock_file, lock_unless, with_file, lock_inode, moved_at, unlocked_in, LockedState, Refuses, Locks, tables_offset, double_descriptor, double_at, double_to, with_descriptor, IsSoundTables, InodeType, OfDirectory, OfFile, OfDevice, face_of, face_or, Cause, Desk, Entry, LockResult, NotLocked, LocksIt, file_count, slot_at, entry_at, is_at, double_if, entry_moved, lock_if, locked, unlocked, mode_refusal, read_refused, with_offset, write_refused, Inv, opens_slots, BothCame, DeskShows, DesksShow, FilesShow, Runs, kind_of, file_of, place_with, is_taken, doubled_as, refused_as, DescriptorsAreDoubled, DirectoriesAreSettled, DescriptorsNameFiles, FitsStat, FitsRead, load_locked, FilesAreLocked, FilesAreLockedToRead, OffsetsAreMoved, Loaded}
 use Rattle.fs_machine.specs.declared.desk.Desk as cards
 use Rattle.fs_machine.specs.declared.files.FilePlace.TheVariants.{Open}
@@ -85,7 +84,7 @@ files_counted h fd s r o t w load shows n new same j lt = elim (same_or j s) [
 
 pub descriptors_are_doubled : DescriptorsAreDoubled
 unfolding double_descriptor
-descriptors_are_doubled h fd t w load shows inv runs = at (slot_at w h fd) refl
+descriptors_are_doubled version h fd t w load shows inv runs = at (slot_at w h fd) refl
   where
     Goal : Type 0
     Goal = BothCame (λ a b. a ≡ doubled_as b) (λ a. load) (double_at h t (place_named h fd t)) (above.double_at h w (slot_at w h fd) (entry_of w h fd))
@@ -129,7 +128,7 @@ descriptors_are_doubled h fd t w load shows inv runs = at (slot_at w h fd) refl
 
 pub directories_are_settled : DirectoriesAreSettled
 unfolding settle_inode
-directories_are_settled h v t w load shows runs mine = at (w.alone v.number)
+directories_are_settled version h v t w load shows runs mine = at (w.alone v.number)
   where
     given : Shows (unlock_inode h v None t) (record w { lock = put w.lock v.number None }) (put load v.number v.content)
     given = locks_are_given h v t w load shows mine
@@ -177,25 +176,25 @@ file_referred h fd w f inv lt e = by_slot (slot_at w h fd) refl
 
 pub files_are_locked : FilesAreLocked
 unfolding lock_file
-files_are_locked h fd t w load shows inv runs = at (entry_of w h fd) refl
+files_are_locked version h fd t w load shows inv runs = at (entry_of w h fd) refl
   where
-    at : (o : Option Entry) → entry_of w h fd ≡ o → BothCame (λ a b. FitsStat load (entry_of w h fd) a) (load_locked load) (lock_unless h t (file_named h fd t) (refusal_of want.Stat (file_named h fd t))) (one.stat_at h w (entry_of w h fd))
+    at : (o : Option Entry) → entry_of w h fd ≡ o → BothCame (λ a b. FitsStat load (entry_of w h fd) a) (load_locked load) (lock_unless h t (file_named h fd t) (refusal_of want.Stat (file_named h fd t))) (above.stat_at version h w (entry_of w h fd))
     at None e =
-        both_ran (λ a b. FitsStat load (entry_of w h fd) a) (load_locked load) (lock_unless h t (file_named h fd t) (refusal_of want.Stat (file_named h fd t))) (one.stat_at h w (entry_of w h fd)) (Refuses refused.BadDescriptor) None t w
+        both_ran (λ a b. FitsStat load (entry_of w h fd) a) (load_locked load) (lock_unless h t (file_named h fd t) (refusal_of want.Stat (file_named h fd t))) (above.stat_at version h w (entry_of w h fd)) (Refuses refused.BadDescriptor) None t w
         (ap (λ (z : Option tables.OpenFile). lock_unless h t z (refusal_of want.Stat z)) (file_is h fd t w load shows inv runs ∙ ap (option_map file_of) e))
-        (ap (one.stat_at h w) e) (subst (λ (z : Option Entry). FitsStat load z (Refuses refused.BadDescriptor)) (sym e) refl) shows
+        (ap (above.stat_at version h w) e) (subst (λ (z : Option Entry). FitsStat load z (Refuses refused.BadDescriptor)) (sym e) refl) shows
     at (Some f) e =
         let n = f.file.number in
         let p = place_there n t w load shows (file_referred h fd w f inv runs.below e) in
         let lower : lock_unless h t (file_named h fd t) (refusal_of want.Stat (file_named h fd t)) ≡ with_file (file_of f) (lock_inode h n t) = ap (λ (z : Option tables.OpenFile). lock_unless h t z (refusal_of want.Stat z)) (file_is h fd t w load shows inv runs ∙ ap (option_map file_of) e) in
         by_lock h n p.0 t w load shows p.1 _
-        (λ waits g out. both_wait _ _ _ _ (lower ∙ ap (with_file (file_of f)) waits) (ap (one.stat_at h w) e ∙ ap (lock_if h n (Some (n, face_or (face_of (w.disk n)))) w (locked h n w)) out))
-        (λ u ran free after. both_ran _ _ _ _ (Locks (file_of f) (load n)) (Some (n, face_or (face_of (w.disk n)))) u (locked h n w) (lower ∙ ap (with_file (file_of f)) ran) (ap (one.stat_at h w) e ∙ ap (lock_if h n (Some (n, face_or (face_of (w.disk n)))) w (locked h n w)) free)
+        (λ waits g out. both_wait _ _ _ _ (lower ∙ ap (with_file (file_of f)) waits) (ap (above.stat_at version h w) e ∙ ap (lock_if h n (Some (n, face_or (face_of version (w.disk n)))) w (locked h n w)) out))
+        (λ u ran free after. both_ran _ _ _ _ (Locks (file_of f) (load n)) (Some (n, face_or (face_of version (w.disk n)))) u (locked h n w) (lower ∙ ap (with_file (file_of f)) ran) (ap (above.stat_at version h w) e ∙ ap (lock_if h n (Some (n, face_or (face_of version (w.disk n)))) w (locked h n w)) free)
         (subst (λ (z : Option Entry). FitsStat load z (Locks (file_of f) (load n))) (sym e) refl) after)
 
 pub files_are_locked_to_read : FilesAreLockedToRead
 unfolding lock_file
-files_are_locked_to_read h fd t w load shows inv runs = at (entry_of w h fd) refl
+files_are_locked_to_read version h fd t w load shows inv runs = at (entry_of w h fd) refl
   where
     Fits : Option Entry → LockedState → LockResult → Type 0
     Fits o = FitsRead load o (read_refused o)

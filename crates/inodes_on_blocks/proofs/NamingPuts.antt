@@ -101,7 +101,7 @@ module _ (h n : ℕ) (c : Carry) (o : Option Node) (d : Dinode) (x : Node) (r : 
   pub shows_both : Shows then_ seen_then
   shows_both = node_then h n then_ g (Some x) naming_shows is.lock is.joined
 
-  pub base_then : (index : IndexState) → IsIndexOf index (Some x) → in_hand h r ≡ 1 → (g.desks h).lender ≡ None → Base h then_ seen_then (put c n (Has (record { inode = d; index = index }) NothingMore))
+  pub base_then : (index : IndexState) → IsIndexOf (log_of r).sizes.version index (Some x) → in_hand h r ≡ 1 → (g.desks h).lender ≡ None → Base h then_ seen_then (put c n (Has (record { inode = d; index = index }) NothingMore))
   base_then index right one free = record {
     free = let back = (put_hand h b (with_record n d r) (log_of r).seats can.holder).count in omega (arith, back, one);
     taken = none_taken;
@@ -120,8 +120,8 @@ module _ (h n : ℕ) (c : Carry) (o : Option Node) (d : Dinode) (x : Node) (r : 
       this = record {
         keeps = changing.keeps;
         loaded_is =
-            subst (λ (z : Had). IsLoaded z (put g.disk n (Some x) n) (inode_in (log_of then_) n)) (sym (put_same c n (Has loads NothingMore)))
-            (sym inode_then, (λ z. none-some x (sym z ∙ put_same g.disk n (Some x))), tt, subst (IsIndexOf index) (sym (put_same g.disk n (Some x))) right);
+            subst (λ (z : Had). IsLoaded (log_of then_).sizes.version z (put g.disk n (Some x) n) (inode_in (log_of then_) n)) (sym (put_same c n (Has loads NothingMore)))
+            (sym inode_then, (λ z. none-some x (sym z ∙ put_same g.disk n (Some x))), tt, subst (IsIndexOf (log_of r).sizes.version index) (sym (put_same g.disk n (Some x))) right);
         holds = subst (λ (v : Option Node). HoldsAt (disk_of (log_of then_)) then_.owner n v) (sym (put_same g.disk n (Some x))) holds_then;
         opened = subst (λ (z : Had). IsOpened h n z seen_then) (sym (put_same c n (Has loads NothingMore))) tt;
       }
@@ -129,7 +129,7 @@ module _ (h n : ℕ) (c : Carry) (o : Option Node) (d : Dinode) (x : Node) (r : 
       other : (i : ℕ) → i ≢ n → InHand h i (c i) then_ g → InHand h i (c i) then_ seen_then
       other i ne was = record {
         keeps = was.keeps;
-        loaded_is = subst (λ (v : Option Node). IsLoaded (c i) v (inode_in (log_of then_) i)) (sym (put_other g.disk n (Some x) i ne)) was.loaded_is;
+        loaded_is = subst (λ (v : Option Node). IsLoaded (log_of then_).sizes.version (c i) v (inode_in (log_of then_) i)) (sym (put_other g.disk n (Some x) i ne)) was.loaded_is;
         holds = subst (λ (v : Option Node). HoldsAt (disk_of (log_of then_)) then_.owner i v) (sym (put_other g.disk n (Some x) i ne)) was.holds;
         opened = open_then h i (c i) g seen_then (open_same h i g) was.opened;
       }

@@ -1,5 +1,5 @@
 -- A new inode: which inodes of a block may be claimed, and what one holds once its record has a type.
-use Rattle.inodes_on_blocks.proofs.Vocabulary.{◌≡◌, inl, inr, ℕ, zero, suc, ◌+◌, ◌<◌, ◌≤◌, Bool, true, false, List, [], ◌∷◌, length, replicate, Some, None, refl, sym, ◌∙◌, ap, subst, arith, if◌then◌else◌, get_or, find, Contains-append_cases, none-some, same_Some, Dinode, sizes_of, addresses, UpToLog, inode_of, is_free, numbers_by_free, HoldsAt, IsInode, NamesOwned, size_in, IsInodePut, is_free_in, free_among, new_record, blank, InodeType, OfDirectory, OfFile, OfDevice, kind_of, IsMade}
+use Rattle.inodes_on_blocks.proofs.Vocabulary.{◌≡◌, inl, inr, ℕ, zero, suc, ◌+◌, ◌<◌, ◌≤◌, Bool, true, false, List, [], ◌∷◌, length, replicate, Some, None, refl, sym, ◌∙◌, ap, subst, arith, if◌then◌else◌, get_or, find, Contains-append_cases, none-some, same_Some, Dinode, sizes_of, addresses, UpToLog, inode_of, is_free, numbers_by_free, HoldsAt, IsInode, NamesOwned, size_in, IsInodePut, is_free_in, free_among, new_record, blank, InodeType, OfDirectory, OfFile, OfDevice, kind_of, IsMade, Version, version_in}
 use Rattle.std.proofs.Common.{All}
 use Rattle.std.specs.Prelude.{Contains}
 use Rattle.inodes_on_blocks.proofs.LaidInodes.{node_held, empty_laid, empty_named}
@@ -42,22 +42,22 @@ all_zero zero k z l = absurd (omega (arith, l))
 all_zero (suc n) zero z l = refl
 all_zero (suc n) (suc k) z l = all_zero n k z (omega (arith, l))
 
-blank_inode : (inode_type : InodeType) → IsMade inode_type → IsInode (new_record (kind_of inode_type)) (blank inode_type)
-blank_inode OfDirectory made = record { kind = refl; count = refl; size = refl; device = tt }
-blank_inode OfFile made = record { kind = refl; count = refl; size = refl; device = tt }
-blank_inode (OfDevice major) made = absurd made
+blank_inode : (version : Version) (inode_type : InodeType) → IsMade inode_type → IsInode version (new_record (kind_of inode_type)) (blank inode_type)
+blank_inode version OfDirectory made = record { kind = refl; count = refl; size = omega arith; device = tt }
+blank_inode version OfFile made = record { kind = refl; count = refl; size = refl; device = tt }
+blank_inode version (OfDevice major) made = absurd made
 
-blank_empty : (inode_type : InodeType) → IsMade inode_type → size_in (blank inode_type).kind ≡ 0
-blank_empty OfDirectory made = refl
-blank_empty OfFile made = refl
-blank_empty (OfDevice major) made = absurd made
+blank_empty : (version : Version) (inode_type : InodeType) → IsMade inode_type → size_in version (blank inode_type).kind ≡ 0
+blank_empty version OfDirectory made = omega arith
+blank_empty version OfFile made = refl
+blank_empty version (OfDevice major) made = absurd made
 
 -- An inode that is free has no block; put with a type alone it holds the node of that type, without links or content.
 pub new_holds : (disk new : List (List ℕ)) (owner : ℕ → ℕ) (n : ℕ) (inode_type : InodeType) → UpToLog disk → n < (sizes_of disk).ninodes → IsMade inode_type → is_free (inode_of disk n) ≡ true → HoldsAt disk owner n None
     → IsInodePut disk new n (new_record (kind_of inode_type)) → HoldsAt new owner n (Some (blank inode_type))
 new_holds disk new owner n inode_type front bound made free held put =
     let d : Dinode = new_record (kind_of inode_type) in
-    let is : IsInode d (blank inode_type) = blank_inode inode_type made in
+    let is : IsInode (version_in disk) d (blank inode_type) = blank_inode (version_in disk) inode_type made in
     let none : All {X = ℕ} (λ b. b ≡ 0) d.addrs = all_zero addresses in
     let owned : NamesOwned disk owner n [] = subst (NamesOwned disk owner n) (numbers_by_free disk n (inode_of disk n) refl free) held.blocks.named in
-    node_held disk new owner n d (blank inode_type) front bound put (empty_laid disk owner n d (blank inode_type) is (blank_empty inode_type made) none) (empty_named disk owner n d (blank inode_type) is (blank_empty inode_type made) none owned)
+    node_held disk new owner n d (blank inode_type) front bound put (empty_laid disk owner n d (blank inode_type) is (blank_empty (version_in disk) inode_type made) none) (empty_named disk owner n d (blank inode_type) is (blank_empty (version_in disk) inode_type made) none owned)

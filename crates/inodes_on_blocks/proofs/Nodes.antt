@@ -1,8 +1,8 @@
 -- The nodes of the tree that an image holds, and their slots.
-use Rattle.inodes_on_blocks.proofs.Vocabulary.{◌≡◌, ⊎_elim, ℕ, zero, suc, ◌<◌, ◌≤◌, true, false, ℤ, pos, negsuc, inl, inr, refl, sym, ◌∙◌, ap, arith, List, [], ◌∷◌, length, length-append, drop, get_or, Option, Some, None, nat_lt, false≢true, false_from_ne_true, cases_lt, get_or_past, get_or_append_left, get_or_at, Dinode, sizes_of, Node, NodeKind, Directory, tree_of, live_directory, times, inode_of, is_positive, is_live, is_node, is_live_directory, slots_in, slot_numbers, further_in, is_file, count_of, node_of, first_nodes, tree_in, node_is, node_from, directory_is, directory_from, Slots, folder, past, count_in, either, folder_dead, count_nil, first_nodes_by, node_by, kind_by, slots_in_by, One}
+use Rattle.inodes_on_blocks.proofs.Vocabulary.{◌≡◌, ⊎_elim, ℕ, zero, suc, ◌<◌, ◌≤◌, true, false, ℤ, pos, negsuc, inl, inr, refl, sym, ◌∙◌, ap, arith, List, [], ◌∷◌, length, length-append, drop, get_or, Option, Some, None, nat_lt, false≢true, false_from_ne_true, cases_lt, get_or_past, get_or_append_left, get_or_at, Dinode, sizes_of, Node, NodeKind, Directory, tree_of, live_directory, times, inode_of, is_positive, is_live, is_node, is_live_directory, slots_in, slot_numbers, further_in, is_file, count_of, node_of, first_nodes, tree_in, node_is, node_from, directory_is, directory_from, Slots, folder, past, count_in, either, folder_dead, count_nil, first_nodes_by, node_by, kind_by, slots_in_by, version_in}
 use Rattle.plain_tree.specs.Tree.{is_directory}
 use Rattle.image_tree.specs.Inodes as inodes
-use Rattle.image_tree.specs.VersionOne.{kind_of}
+use Rattle.image_tree.specs.Images.{kind_of}
 use Rattle.inodes_on_blocks.proofs.ImageSlots.{Entries, in_tree, past_in_tree, counts_same}
 pub use Rattle.image_tree.proofs.SlotLemmas.{directory_kind}
 
@@ -63,7 +63,7 @@ directory_node disk i h =
     let is = directory_is disk i h in
     node_from disk i (record { low = is.low; bound = is.bound; used = directory_kind (inode_of disk i).kind is.directory })
 
-pub kind_of_directory : (disk : List (List ℕ)) (d : Dinode) → inodes.is_directory d ≡ true → kind_of disk d ≡ Directory (in_tree (inodes.slots_of One disk d))
+pub kind_of_directory : (disk : List (List ℕ)) (d : Dinode) → inodes.is_directory d ≡ true → kind_of disk d ≡ Directory (in_tree (inodes.slots_of (version_in disk) disk d))
 unfolding kind_by
 kind_of_directory disk d h = rw h refl
 
@@ -78,7 +78,7 @@ pub positive_count : (z : ℤ) → is_positive z ≡ true → nat_lt 0 (count_of
 positive_count (pos n) h = h
 positive_count (negsuc n) h = absurd (false≢true h)
 
-pub slots_of_directory : (disk : List (List ℕ)) (i : ℕ) → is_live_directory disk i ≡ true → slots_in disk i ≡ inodes.slots_of One disk (inode_of disk i)
+pub slots_of_directory : (disk : List (List ℕ)) (i : ℕ) → is_live_directory disk i ≡ true → slots_in disk i ≡ inodes.slots_of (version_in disk) disk (inode_of disk i)
 unfolding slots_in_by
 slots_of_directory disk i h = rw h refl
 

@@ -44,14 +44,14 @@ own_put h n b old bytes r g shows is can block own past was = record {
       (disk_of (log_with h b others r), disk_put h b others r.state shows.whole shows.blocks.seen may, put_bytes h b others r.state shows.whole shows.blocks.seen may);
 }
 
-module _ (sizes : Super) (l : Labels) (laws : Laws (labelled l)) (keeps : Keeps l) (h : ℕ) (lt : h < hart_count) (B : List l.Step → Type 0) where
+module _ (sizes : Super) (l : Labels) (laws : Laws (labelled sizes.version l)) (keeps : Keeps l) (h : ℕ) (lt : h < hart_count) (B : List l.Step → Type 0) where
   abbrev W : Type 0
   W = Both World above.World
 
   abbrev M : Machine
-  M = joined (labelled l) (below sizes)
+  M = joined (labelled sizes.version l) (below sizes)
 
-  module _ {A : Type 0} (Q : A → List l.Step → W → Type 0) (G : List l.Step → above.World → Type 0) (stable : Stable (labelled l) (below sizes) laws (below_laws sizes l keeps) h B G)
+  module _ {A : Type 0} (Q : A → List l.Step → W → Type 0) (G : List l.Step → above.World → Type 0) (stable : Stable (labelled sizes.version l) (below sizes) laws (below_laws sizes l keeps) h B G)
       (n : ℕ) (changes : (fs : List l.Step) (g : above.World) → G fs g → Inv g → IsChanging h n g) (Before After : World → above.World → Type 0)
       (lasts : (v w : World) (g u : above.World) → Shows v g → Shows w u → LeftTo h v w → Kept h g u → Before v g → Before w u)
       (b : ℕ) (old bytes : List ℕ) (block : IsData sizes b) (long : length bytes ≡ block_len) (are : IsBytes bytes) (own : (r : World) (g : above.World) → Before r g → owner_with h n r b ≡ n)

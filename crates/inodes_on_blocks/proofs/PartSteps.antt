@@ -22,22 +22,22 @@ part_bytes at bytes block are old =
     overwrite_bytes block (front_of at bytes) (at % block_len) old (take_bytes (block_len - at % block_len) bytes are)
 
 -- What such a put makes of the inode, whose block k it is: it is laid out for node y then, with size e.
-abbrev pub MakesPart : (h n k z e at : ℕ) → List ℕ → Carry → Option Node → (x y : Node) → Type 0
-MakesPart h n k z e at bytes c o x y =
-    (d : Dinode) (b : ℕ) (old : List ℕ) (r : World) (g : above.World) → Shows r g → Changing h n c o (sized z d) x r g → b ≢ 0 → block_number (numbers_of (disk_of (log_of r)) (sized z d)) k ≡ b → length old ≡ block_len → IsBytes old
+abbrev pub MakesPart : Super → (h n k z e at : ℕ) → List ℕ → Carry → Option Node → (x y : Node) → Type 0
+MakesPart sizes h n k z e at bytes c o x y =
+    (d : Dinode) (b : ℕ) (old : List ℕ) (r : World) (g : above.World) → (log_of r).sizes ≡ sizes → Shows r g → Changing h n c o (sized z d) x r g → b ≢ 0 → block_number (numbers_of (disk_of (log_of r)) (sized z d)) k ≡ b → length old ≡ block_len → IsBytes old
     → IsOwnPut h n b old (with_part at bytes old) r
     → Becomes (disk_of (log_of r)) (disk_of (log_with h b (with_part at bytes old) r)) (owner_with h n r) (owner_with h n r) n (sized z d) (sized e d) y
 
-module _ (sizes : Super) (l : Labels) (laws : Laws (labelled l)) (keeps : Keeps l) (h : ℕ) (lt : h < hart_count) (B : List l.Step → Type 0) where
+module _ (sizes : Super) (l : Labels) (laws : Laws (labelled sizes.version l)) (keeps : Keeps l) (h : ℕ) (lt : h < hart_count) (B : List l.Step → Type 0) where
   abbrev W : Type 0
   W = Both World above.World
 
   abbrev M : Machine
-  M = joined (labelled l) (below sizes)
+  M = joined (labelled sizes.version l) (below sizes)
 
-  module _ {A : Type 0} (Q : A → List l.Step → W → Type 0) (G : List l.Step → above.World → Type 0) (stable : Stable (labelled l) (below sizes) laws (below_laws sizes l keeps) h B G)
+  module _ {A : Type 0} (Q : A → List l.Step → W → Type 0) (G : List l.Step → above.World → Type 0) (stable : Stable (labelled sizes.version l) (below sizes) laws (below_laws sizes l keeps) h B G)
       (n : ℕ) (changes : (fs : List l.Step) (g : above.World) → G fs g → Inv g → IsChanging h n g) (c : Carry) (o : Option Node) (x y : Node) (s : Spent) (bitmap : s.bitmap ≡ true) (far : Bool) (k z e was most : ℕ) (small : size s + most < most_recorded)
-      (at : ℕ) (bytes : List ℕ) (are : IsBytes bytes) (makes : MakesPart h n k z e at bytes c o x y) (more : Dinode → P M WriteResult) (f : WriteResult → P M A) (j : ℕ)
+      (at : ℕ) (bytes : List ℕ) (are : IsBytes bytes) (makes : MakesPart sizes h n k z e at bytes c o x y) (more : Dinode → P M WriteResult) (f : WriteResult → P M A) (j : ℕ)
       -- how it goes on: no block was free, or the part was written
       (lacks : (d : Dinode) (bs : List ℕ) (v : W) (fs : List l.Step) → Between sizes h n (G fs) c o (sized z d) x (HasBlocks sizes h s bs) v → Fits was d → length bs ≤ most → Wp M h B Q (f (record { inode = d; upto = at })) j fs v)
       (goes : (d : Dinode) (bs : List ℕ) (v : W) (fs : List l.Step) → Between sizes h n (G fs) c o (sized e d) y (HasBlocks sizes h s bs) v → Fits was d → length bs + extra far bs (table_of d) ≤ suc most → Wp M h B Q (bind (more d) f) j fs v) where
@@ -49,12 +49,13 @@ module _ (sizes : Super) (l : Labels) (laws : Laws (labelled l)) (keeps : Keeps 
         (v : W) (fs : List l.Step) (there : Between sizes h n (G fs) c o (sized z d) x (HasBlocks sizes h s bs) v) (number : block_number (numbers_of (disk_of (log_of v.real)) (sized z d)) k ≡ b) where
       -- what is known until the put
       abbrev Known : World → above.World → Type 0
-      Known r g = Changing h n c o (sized z d) x r g × (block_number (numbers_of (disk_of (log_of r)) (sized z d)) k ≡ b)
+      Known r g = Changing h n c o (sized z d) x r g × (block_number (numbers_of (disk_of (log_of r)) (sized z d)) k ≡ b) × ((log_of r).sizes ≡ sizes)
 
       known_stays : (u w : World) (g i : above.World) → Shows u g → Shows w i → LeftTo h u w → Kept h g i → Known u g → Known w i
       known_stays u w g i shows shows_then left kept is = (
         changing_then h n c o (sized z d) x u w g i shows shows_then left kept is.0,
         ap (λ (ns : List ℕ). block_number ns k) (numbers_stay h n c o (sized z d) x u w g i shows shows_then left is.0) ∙ is.1,
+        left.sizes ∙ is.2,
       )
 
       owned : (r : World) (g : above.World) → Known r g → IsOwned (disk_of (log_of r)) (owner_with h n r) n b
@@ -65,7 +66,7 @@ module _ (sizes : Super) (l : Labels) (laws : Laws (labelled l)) (keeps : Keeps 
       block : IsData sizes b
       block =
           subst (λ (q : Super). IsData q b) ((good_seen (log_of v.real).sizes (seen_of (log_of v.real)) (length (log_of v.real).contents) there.shows.blocks.seen).sizes_are ∙ there.at)
-          (owned v.real v.seen (there.changing, number)).block
+          (owned v.real v.seen (there.changing, number, there.at)).block
 
       room : KeepsRoom h b (HasBlocks sizes h s bs) (HasBlocks sizes h s (with_block bs b))
       room = block_room sizes h b s bs (λ isnt. let new = number_new bs b isnt in omega (arith, new, cost, small))
@@ -73,7 +74,7 @@ module _ (sizes : Super) (l : Labels) (laws : Laws (labelled l)) (keeps : Keeps 
       put_then : (old : List ℕ) → length old ≡ block_len → IsBytes old → (r : World) (g : above.World) → Shows r g → Known r g → IsOwnPut h n b old (with_part at bytes old) r → Changing h n c o (sized e d) y (world_with h b (with_part at bytes old) r) g
       put_then old long bytes_are r g shows is made =
           let now = with_part at bytes old in
-          let becomes = makes d b old r g shows is.0 some is.1 long bytes_are made in
+          let becomes = makes d b old r g is.2 shows is.0 some is.1 long bytes_are made in
           changed_put h n b now r g shows made.leaves c o (sized z d) (sized e d) x y is.0
           (subst (λ (q : ℕ → ℕ). IsLaidOut (disk_of (log_with h b now r)) q n (sized e d) y) (sym made.owners) becomes.laid)
           (subst (λ (q : ℕ → ℕ). NamesOwned (disk_of (log_with h b now r)) q n (numbers_of (disk_of (log_with h b now r)) (sized e d))) (sym made.owners)
@@ -91,7 +92,7 @@ module _ (sizes : Super) (l : Labels) (laws : Laws (labelled l)) (keeps : Keeps 
           let long : length old ≡ block_len = got.shows.blocks.seen.whole b home.within home.outside in
           s-own sizes l laws keeps h lt B Q G stable n changes Known (λ r g. Changing h n c o (sized e d) y r g) known_stays b old (with_part at bytes old) block (part_long at bytes old long) (part_bytes at bytes old are (got.shows.bytes b home.within home.outside))
           (λ r g is. (owned r g is).owner_is) (λ r g shows is made. put_then old long (got.shows.bytes b home.within home.outside) r g shows is made) (HasBlocks sizes h s bs) (HasBlocks sizes h s (with_block bs b)) room
-          (λ _. bind (more d) f) j gs u got.stage got.shows (known_stays v.real u.real v.seen u.seen there.shows got.shows (left_but h b v.real u.real got.since) got.kept (there.changing, number)) got.buffer sized_ (room.gives.fetched b v.real u.real got.since there.known)
+          (λ _. bind (more d) f) j gs u got.stage got.shows (known_stays v.real u.real v.seen u.seen there.shows got.shows (left_but h b v.real u.real got.since) got.kept (there.changing, number, there.at)) got.buffer sized_ (room.gives.fetched b v.real u.real got.since there.known)
           (λ w hs done.
           goes d (with_block bs b) w hs
           (record {

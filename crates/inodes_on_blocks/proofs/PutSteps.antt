@@ -159,16 +159,16 @@ bitmap_home r g shows =
 
 -- ---- the rules
 
-module _ (sizes : Super) (l : Labels) (laws : Laws (labelled l)) (keeps : Keeps l) (h : ℕ) (lt : h < hart_count) (B : List l.Step → Type 0) where
+module _ (sizes : Super) (l : Labels) (laws : Laws (labelled sizes.version l)) (keeps : Keeps l) (h : ℕ) (lt : h < hart_count) (B : List l.Step → Type 0) where
   abbrev W : Type 0
   W = Both World above.World
 
   abbrev M : Machine
-  M = joined (labelled l) (below sizes)
+  M = joined (labelled sizes.version l) (below sizes)
 
-  module _ {A : Type 0} (Q : A → List l.Step → W → Type 0) (G : List l.Step → above.World → Type 0) (stable : Stable (labelled l) (below sizes) laws (below_laws sizes l keeps) h B G) where
+  module _ {A : Type 0} (Q : A → List l.Step → W → Type 0) (G : List l.Step → above.World → Type 0) (stable : Stable (labelled sizes.version l) (below sizes) laws (below_laws sizes l keeps) h B G) where
     abbrev IsHere : W → W → List l.Step → Type 0
-    IsHere w v fs = Here (labelled l) (below sizes) laws (below_laws sizes l keeps) h B G w v fs
+    IsHere w v fs = Here (labelled sizes.version l) (below sizes) laws (below_laws sizes l keeps) h B G w v fs
 
     -- what holds at a put: it may be made, and what it leaves
     pub record Putting (n b : ℕ) (bytes : List ℕ) (k : Unit {0} → P M A) (j : ℕ) (fs : List l.Step) (v : W) : Type 0 where
@@ -182,7 +182,7 @@ module _ (sizes : Super) (l : Labels) (laws : Laws (labelled l)) (keeps : Keeps 
         → Wp M h B Q (Do (Put b (Some bytes)) unmarked k) (suc j) es w
     unfolding steps.exec premises.MayWait premises.Honest
     s-put n b bytes k j es w stage rule =
-        s-silent (labelled l) (below sizes) laws (below_laws sizes l keeps) h B (Put b (Some bytes)) k Q G j es w stable stage
+        s-silent (labelled sizes.version l) (below sizes) laws (below_laws sizes l keeps) h B (Put b (Some bytes)) k Q G j es w stable stage
         (λ v fs here.
         let p = rule v fs here in
         let law = (λ (x : Outside). recorded_puts_keep h b n bytes v.real v.seen x here.shows p.changing p.can p.leaves) in

@@ -1,10 +1,9 @@
 -- A part of the content of an inode that holds its node: what its blocks have of it, and how long that is.
-use Rattle.inodes_on_blocks.proofs.Vocabulary.{◌≡◌, ◌≢◌, ⊎_elim, ℕ, ℤ, ◌+◌, ◌-◌, ◌*◌, ◌/◌, ◌<◌, ◌≤◌, Bool, cond, false, List, [], length, take, drop, Some, None, refl, sym, ◌∙◌, ap, subst, arith, cases_lt, lt-ltb, le-ltb, length-drop, none-some, Dinode, IsBytes, block_len, largest_size, is_free, content_block, blocks_for, numbers_of, block_number, HoldsAt, blocks_between, end_of, front, NoDriver, Node, Device, no_driver, seen_of, World, log_of, disk_of, inode_in, Shows, most_blocks}
+use Rattle.inodes_on_blocks.proofs.Vocabulary.{◌≡◌, ◌≢◌, ⊎_elim, ℕ, ℤ, ◌+◌, ◌-◌, ◌*◌, ◌/◌, ◌<◌, ◌≤◌, Bool, cond, false, List, [], length, take, drop, Some, None, refl, sym, ◌∙◌, ap, subst, arith, cases_lt, lt-ltb, le-ltb, length-drop, none-some, Dinode, IsBytes, block_len, largest_size, is_free, content_block, blocks_for, numbers_of, block_number, HoldsAt, blocks_between, end_of, front, NoDriver, Node, Device, no_driver, seen_of, World, log_of, disk_of, inode_in, Shows, most_blocks, Version, content, Super}
 use Rattle.std.proofs.lemmas.List.{length-take}
-use Rattle.plain_tree.specs.VersionOne as tree
-use Rattle.inode_machine.specs.VersionOne.{part_of}
+use Rattle.inode_machine.specs.Exec.{part_of}
 use Rattle.inode_machine.specs.World as above
-use Rattle.inodes_on_blocks.proofs.Basics.{data_place, block_data, block_seen}
+use Rattle.inodes_on_blocks.proofs.Basics.{data_place, block_data, block_seen, seen_sizes}
 use Rattle.inodes_on_blocks.proofs.ContentParts.{with_bytes, read_all, up_to}
 use Rattle.inodes_on_blocks.proofs.ContentReads.{filled_from}
 use Rattle.inodes_on_blocks.proofs.NodeBytes.{all_whole, node_bytes}
@@ -39,6 +38,9 @@ module _ (v : World) (g : above.World) (shows : Shows v g) (n : ℕ) (node : Nod
   abbrev disk : List (List ℕ)
   disk = disk_of (log_of v)
 
+  abbrev version : Version
+  version = (log_of v).sizes.version
+
   abbrev d : Dinode
   d = inode_in (log_of v) n
 
@@ -68,15 +70,15 @@ module _ (v : World) (g : above.World) (shows : Shows v g) (n : ℕ) (node : Nod
       let sized = shows.blocks.seen.sized in
       subst IsBytes (sym (block_is k below)) (shows.bytes (block_number (numbers_of disk d) k) (omega (arith, small_, sized)) at.0)
 
-  content_is : take d.size all ≡ tree.content node.kind
-  content_is = node_bytes disk v.owner n node holds used whole fits (not_device node plain)
+  content_is : take d.size all ≡ content version node.kind
+  content_is = node_bytes disk v.owner n node holds used whole fits (not_device node plain) ∙ ap (λ (z : Super). content z.version node.kind) (seen_sizes v g shows)
 
   -- it ends at the size
   pub ends_within : end_of d offset count ≤ d.size
   ends_within = omega arith
 
   -- What the blocks have between the offset and its end is the node's part.
-  pub part_read : filled_from block (blocks_between offset (end_of d offset count)) offset (end_of d offset count) (with_bytes []) ≡ with_bytes (part_of (Some node) offset count)
+  pub part_read : filled_from block (blocks_between offset (end_of d offset count)) offset (end_of d offset count) (with_bytes []) ≡ with_bytes (part_of version (Some node) offset count)
   part_read =
       let ends = ends_within in
       let limit = small in
@@ -87,13 +89,13 @@ module _ (v : World) (g : above.World) (shows : Shows v g) (n : ℕ) (node : Nod
       ∙ ap (λ (xs : List ℕ). take count (drop offset xs)) content_is)
 
   -- and with it a file's offset is no further than a content may be long
-  pub part_short : offset ≤ largest_size → offset + length (part_of (Some node) offset count) ≤ largest_size
+  pub part_short : offset ≤ largest_size → offset + length (part_of version (Some node) offset count) ≤ largest_size
   part_short within =
       let limit = small in
       let long = length-take d.size all in
-      let same : length (take d.size all) ≡ length (tree.content node.kind) = ap length content_is in
-      let rest = length-drop offset (tree.content node.kind) in
-      let part = length-take count (drop offset (tree.content node.kind)) in
+      let same : length (take d.size all) ≡ length (content version node.kind) = ap length content_is in
+      let rest = length-drop offset (content version node.kind) in
+      let part = length-take count (drop offset (content version node.kind)) in
       omega (arith, limit, long, same, rest, part, within)
 
   pub few_blocks : blocks_between offset (end_of d offset count) ≤ most_blocks

@@ -129,7 +129,7 @@ node_then h n r g v shows mine joined = record {
     ];
     indexed = λ m d e. elim (same_or m n) [
       | inl q ↦ absurd (none-some d (sym (not_loaded m h (tables_of r) g shows.tables (sym (shows.tables.places.holders m) ∙ ap g.lock q ∙ mine)) ∙ e))
-      | inr ne ↦ subst (IsIndexOf d.index) (sym (put_other g.disk n v m ne)) (shows.loads.indexed m d e)
+      | inr ne ↦ subst (IsIndexOf (log_of r).sizes.version d.index) (sym (put_other g.disk n v m ne)) (shows.loads.indexed m d e)
     ];
   };
   offsets = shows.offsets;

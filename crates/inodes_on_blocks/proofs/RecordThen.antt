@@ -46,7 +46,7 @@ AllBut n h c r g = (i : ℕ) → i ≢ n → lock_holder i (tables_of r) ≡ Som
 -- what the hart knows of its inodes lasts while the others step, and while it takes buffers
 abbrev pub LastsInHand : ℕ → (World → above.World → Type 0) → Type 0
 LastsInHand h This =
-    (v w : World) (g u : above.World) → ((i : ℕ) → lock_holder i (tables_of v) ≡ Some h → KeepsInode h i v w) → ((i : ℕ) → lock_holder i (tables_of w) ≡ Some h → lock_holder i (tables_of v) ≡ Some h)
+    (v w : World) (g u : above.World) → (log_of w).sizes ≡ (log_of v).sizes → ((i : ℕ) → lock_holder i (tables_of v) ≡ Some h → KeepsInode h i v w) → ((i : ℕ) → lock_holder i (tables_of w) ≡ Some h → lock_holder i (tables_of v) ≡ Some h)
     → Kept h g u → (((g.desks h).lender ≡ None → ⊥) → Idle h g) → This v g → This w u
 
 -- a hart without a buffer, before it puts a record
@@ -126,8 +126,8 @@ module _ (h n : ℕ) (d : Dinode) (c : Carry) (r : World) (g : above.World) (sho
       record {
         keeps = keeper i ∙ was.keeps;
         loaded_is =
-            subst (λ (v : Option Node). IsLoaded (c i) v (inode_in (log_of then_) i)) (sym (disk i ne))
-            (subst (λ (f : Dinode). IsLoaded (c i) (g.disk i) f) (sym left.inode) was.loaded_is);
+            subst (λ (v : Option Node). IsLoaded (log_of then_).sizes.version (c i) v (inode_in (log_of then_) i)) (sym (disk i ne))
+            (subst (λ (f : Dinode). IsLoaded (log_of then_).sizes.version (c i) (g.disk i) f) (sym left.inode) was.loaded_is);
         holds =
             subst (λ (o : Option Node). HoldsAt (disk_of (log_of then_)) r.owner i o) (sym (disk i ne))
             (untouched (disk_of (log_of r)) (disk_of (log_of then_)) r.owner r.owner i (g.disk i) left was.holds);

@@ -156,13 +156,13 @@ module _ (h n : ℕ) (t : TablesState) (w : World) (load : ℕ → Option Loaded
         at None e = new_at e (position is_unused t.entries) refl
 
 pub tables_count_references : TablesCountReferences
-tables_count_references h n t w load shows low size =
+tables_count_references version h n t w load shows low size =
     by_place h n t w load shows low size _
     (λ u ran there after. both_ran _ _ _ _ (Some n) true u (counted_up h n w) ran (ap (up_if h n w) there) refl after)
     (λ ran there. both_ran _ _ _ _ None false t w ran (ap (up_if h n w) there) refl shows)
 
 pub starts_are_counted : StartsAreCounted
-starts_are_counted h absolute t w load shows low size =
+starts_are_counted version h absolute t w load shows low size =
     let n = start_number (w.desks h) absolute in
     by_place h n t w load shows low size _
     (λ u ran there after. both_ran _ _ _ _ (Some n) (Some n) u (counted_up h n w) ran (ap (start_if h n w) there) refl after)

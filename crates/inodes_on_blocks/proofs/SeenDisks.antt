@@ -1,5 +1,7 @@
 -- The disk as it is seen.
-use Rattle.inodes_on_blocks.proofs.Vocabulary.{◌≡◌, ◌≢◌, ⊎_elim, ℕ, zero, suc, ◌+◌, ◌<◌, ◌≤◌, inl, inr, refl, sym, ◌∙◌, ap, subst, arith, List, [], ◌∷◌, ◌++◌, length, length-append, replicate, get_or, true, false, if◌then◌else◌, ◌⊎◌, nat_tests, All, cases_lt, get_or_past, get_or_append_left, length-replicate, All-nil, HasWholeBlocks, block_at, Super, u32_at, super_fields, log_head_at, log_count, logged, recovered, sizes_of, IsOutsideLog, logged-empty, recovered-empty, recovered-own, IsOnce, IsGoodSuper, HasGoodLog, UpToLog, IsWellFormed, tree_in, IsViewOf, once_nil, checks_see_recovered, trees_see_recovered, same_or, IsPut, is_in_log, seen_blocks, AreSeen, IsGoodSeen, AreSeenAlike, IsSeenPut, IsRecoveredSo, One, block_len}
+use Rattle.inodes_on_blocks.proofs.Vocabulary.{◌≡◌, ◌≢◌, ⊎_elim, ℕ, zero, suc, ◌+◌, ◌<◌, ◌≤◌, inl, inr, refl, sym, ◌∙◌, ap, subst, arith, List, [], ◌∷◌, ◌++◌, length, length-append, replicate, get_or, true, false, if◌then◌else◌, ◌⊎◌, nat_tests, All, cases_lt, get_or_past, get_or_append_left, length-replicate, All-nil, HasWholeBlocks, block_at, Super, u32_at, super_fields, log_head_at, log_count, logged, recovered, sizes_of, IsOutsideLog, logged-empty, recovered-empty, recovered-own, IsOnce, IsGoodSuper, HasGoodLog, UpToLog, IsWellFormed, tree_in, IsViewOf, once_nil, checks_see_recovered, trees_see_recovered, same_or, IsPut, is_in_log, seen_blocks, AreSeen, IsGoodSeen, AreSeenAlike, IsSeenPut, IsRecoveredSo, block_len, Version, magic_of, version_in}
+use Rattle.image_tree.specs.Damage as damage
+use Rattle.image_tree.specs.Trees as trees
 
 -- ---- its blocks
 
@@ -85,6 +87,9 @@ module _ (sizes : Super) (see : ℕ → List ℕ) (n : ℕ) (these : AreSeen siz
   unfolding sizes_of
   seen_sizes = ap super_fields super_seen ∙ these.sizes_are
 
+  version_seen : version_in disk ≡ sizes.version
+  version_seen = ap (λ (s : Super). s.version) seen_sizes
+
   head_seen : log_head_at disk ≡ replicate block_len 0
   head_seen =
       let good = these.good in
@@ -149,7 +154,7 @@ module _ (sizes : Super) (see : ℕ → List ℕ) (n : ℕ) (these : AreSeen siz
           let sized = these.sized in
           let long = length_seen sizes see n in (
             (
-              (omega (arith, long, start, log, inodes, bitmap, sized), (ap (λ (bytes : List ℕ). u32_at bytes 0) super_seen ∙ these.is_super, subst IsGoodSuper (sym seen_sizes) these.good)),
+              (omega (arith, long, start, log, inodes, bitmap, sized), (ap (λ (bytes : List ℕ). u32_at bytes 0) super_seen ∙ these.is_super ∙ ap magic_of (sym version_seen), subst IsGoodSuper (sym seen_sizes) these.good)),
               subst (λ (s : Super). s.size ≤ length disk) (sym seen_sizes) (omega (arith, long, sized)),
             ),
             good_log,
@@ -243,22 +248,31 @@ module _ (sizes : Super) (see : ℕ → List ℕ) (disk : List (List ℕ)) (thes
       ∙ sym (seen_recovered sizes see (length disk) these b ∙ get_or_past old b [] (omega (arith, m, length_seen sizes see (length disk)))))
       (cases_lt b (length disk))
 
+  same_version : version_in disk ≡ version_in old
+  same_version = ap (λ (s : Super). s.version) so.sizes_are ∙ sym (version_seen sizes see (length disk) these)
+
   view : IsViewOf old disk
   view = record {
     sizes = so.sizes_are ∙ sym (seen_sizes sizes see (length disk) these);
-    good = so.good;
+    good = subst (λ (v : Version). damage.UpToLog v disk) same_version so.good;
     same = λ b out. same_recovered b (subst (λ (s : Super). IsOutsideLog s b) (seen_sizes sizes see (length disk) these) out);
   }
 
   view_back : IsViewOf disk old
   view_back = record {
     sizes = seen_sizes sizes see (length disk) these ∙ sym so.sizes_are;
-    good = (good_seen sizes see (length disk) these).good;
+    good = subst (λ (v : Version). damage.UpToLog v old) (sym same_version) (good_seen sizes see (length disk) these).good;
     same = λ b out. sym (same_recovered b (subst (λ (s : Super). IsOutsideLog s b) so.sizes_are out));
   }
 
   pub recovered_image : IsWellFormed old → IsWellFormed disk × (tree_in disk ≡ tree_in old)
-  recovered_image well = (checks_see_recovered One old disk view well, trees_see_recovered One old disk view well)
+  recovered_image well = (
+    subst (λ (v : Version). damage.IsWellFormed v disk) (sym same_version) (checks_see_recovered (version_in old) old disk view well),
+    ap (λ (v : Version). trees.tree_in v disk) same_version ∙ trees_see_recovered (version_in old) old disk view well,
+  )
 
   pub image_seen : IsWellFormed disk → IsWellFormed old × (tree_in old ≡ tree_in disk)
-  image_seen well = (checks_see_recovered One disk old view_back well, trees_see_recovered One disk old view_back well)
+  image_seen well = (
+    subst (λ (v : Version). damage.IsWellFormed v old) same_version (checks_see_recovered (version_in disk) disk old view_back well),
+    ap (λ (v : Version). trees.tree_in v old) (sym same_version) ∙ trees_see_recovered (version_in disk) disk old view_back well,
+  )

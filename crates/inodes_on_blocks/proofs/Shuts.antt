@@ -203,7 +203,7 @@ module _ (h fd k : ℕ) (t : TablesState) (w : World) (load : ℕ → Option Loa
 
 pub descriptors_are_shut : DescriptorsAreShut
 unfolding shut_descriptor
-descriptors_are_shut h fd t w load shows inv runs lends = at (slot_at w h fd) refl
+descriptors_are_shut version h fd t w load shows inv runs lends = at (slot_at w h fd) refl
   where
     lower : (o : Option ℕ) → slot_at w h fd ≡ o → shut_at h fd t (place_named h fd t) ≡ shut_at h fd t o
     lower o e = ap (shut_at h fd t) (named_is h fd t w load shows runs ∙ e)

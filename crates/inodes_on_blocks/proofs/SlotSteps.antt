@@ -1,6 +1,5 @@
 -- The operations on descriptors and open files act at their one step.
-use Rattle.inode_machine.specs.VersionOne as one
-use Rattle.inodes_on_blocks.proofs.Vocabulary.{◌≡◌, inl, inr, ℕ, ◌<◌, ◌≤◌, ◌==◌, Bool, true, false, Option, Some, None, refl, sym, ◌∙◌, ap, subst, arith, ◌+◌, ◌-◌, ◌≢◌, IsSome, option_map, none-some, same_Some, Cause, OpenFile, put, lowest, has_room, hart_count, largest_size, ExecResult, Waits, Ran, Stops, exec_result_in, Laws, Both, Doubled, TablesState, file_named, refusal_of, take_place, open_file, double_descriptor, shut_descriptor, Entry, Install, CheckFile, Double, Shut, Say, slot_if, install_if, first_from, file_count, is_empty_slot, double_if, slot_at, close_at, close_if, mode_refusal, write_refused, entry_at, InodeType, OfDirectory, OfFile, OfDevice, loaded, new_file, Runs, BothCame, doubled_as, shut_as, refused_as, World, tables_of, came_to, commits_after, owners_of, owners_after, new_after, Shows, OffsetsShow, Carry, Base, Labels, labelled, Keeps, doubled_to, shut_to, cause_if, slot, install, double, close, check_file, say, ActsOnce, LogPart, lowest_free, renewed_same, Inv, same_or, put_same, put_other, IsIndexOf}
+use Rattle.inodes_on_blocks.proofs.Vocabulary.{◌≡◌, inl, inr, ℕ, ◌<◌, ◌≤◌, ◌==◌, Bool, true, false, Option, Some, None, refl, sym, ◌∙◌, ap, subst, arith, ◌+◌, ◌-◌, ◌≢◌, IsSome, option_map, none-some, same_Some, Cause, OpenFile, put, lowest, has_room, hart_count, largest_size, ExecResult, Waits, Ran, Stops, exec_result_in, Laws, Both, Doubled, TablesState, file_named, refusal_of, take_place, open_file, double_descriptor, shut_descriptor, Entry, Install, CheckFile, Double, Shut, Say, slot_if, install_if, first_from, file_count, is_empty_slot, double_if, slot_at, close_at, close_if, mode_refusal, write_refused, entry_at, InodeType, OfDirectory, OfFile, OfDevice, loaded, new_file, Runs, BothCame, doubled_as, shut_as, refused_as, World, tables_of, came_to, commits_after, owners_of, owners_after, new_after, Shows, OffsetsShow, Carry, Base, Labels, labelled, Keeps, doubled_to, shut_to, cause_if, slot, install, double, close, check_file, say, ActsOnceAt, LogPart, lowest_free, renewed_same, Inv, same_or, put_same, put_other, IsIndexOf, Super, log_of}
 use Rattle.fs_machine.specs.declared.files.Want.TheVariants as want
 use Rattle.fs_machine.specs.declared.slots.Shut as shuts
 use Rattle.fs_machine.specs.Steps as steps
@@ -60,12 +59,12 @@ in_tables_is h lop v quiet whose old (Ran a t) =
     λ i. Ran a (record { state = s; owner = (whose s i).owner; left = (whose s i).left; taken = (whose s i).taken; commits = quiet a v.commits i; new = old a s.log i })
 in_tables_is h lop v quiet whose old (Stops t) = refl
 
-module _ (l : Labels) (laws : Laws (labelled l)) (keeps : Keeps l) (h : ℕ) (lt : h < hart_count) where
+module _ (sizes : Super) (l : Labels) (laws : Laws (labelled sizes.version l)) (keeps : Keeps l) (h : ℕ) (lt : h < hart_count) where
   abbrev W : Type 0
   W = Both World above.World
 
   pub came_quiet : (op : above.Op) (v : W) (b : above.Answer op) (t : TablesState) (u : above.World) (c : Carry) → Shows v.real v.seen → Base h v.real v.seen c → (v.seen.desks h).lender ≡ None
-      → one.exec h above.Room op v.seen ≡ Ran b u → tables.Shows t u (loaded (tables_of v.real)) → SameInodes h v.seen u → Came l laws keeps h op v b (with_tables v.real t) c
+      → above_exec.exec sizes.version h above.Room op v.seen ≡ Ran b u → tables.Shows t u (loaded (tables_of v.real)) → SameInodes h v.seen u → Came sizes l laws keeps h op v b (with_tables v.real t) c
   came_quiet op v b t u c shows base free ran after s = record {
     then_ = u;
     ran = ran;
@@ -76,7 +75,7 @@ module _ (l : Labels) (laws : Laws (labelled l)) (keeps : Keeps l) (h : ℕ) (lt
           seen = shows.loads.seen;
           dead = λ n some unlocked loose dead. shows.loads.dead n (s.refs n some) ((λ z. sym s.lock z n) ∙ unlocked) ((λ z. sym s.keeper z n) ∙ loose) ((λ z. above_exec.is_dead (sym s.disk z n)) ∙ dead);
           typed = λ n e. shows.loads.typed n ((λ z. sym s.disk z n) ∙ e);
-          indexed = λ n d e. subst (IsIndexOf d.index) (λ z. sym s.disk z n) (shows.loads.indexed n d e);
+          indexed = λ n d e. subst (IsIndexOf (log_of v.real).sizes.version d.index) (λ z. sym s.disk z n) (shows.loads.indexed n d e);
         }) (s.offsets shows.offsets);
     same = tables_left h v.real t v.seen u (loaded (tables_of v.real)) (loaded (tables_of v.real)) shows.tables after (λ i. inl (λ z. s.lock z i));
     base = base_then h lt v.real v.seen shows c c t u (loaded (tables_of v.real)) base after (s.lender ∙ free)
@@ -87,9 +86,9 @@ module _ (l : Labels) (laws : Laws (labelled l)) (keeps : Keeps l) (h : ℕ) (lt
 
   -- by what came of both
   pub from_both : (op : above.Op) {A : Type 0} (v : W) (wait : Type 0) (answer : A → above.Answer op) (Fits : A → above.Answer op → Type 0) (c : Carry) (d : ExecResult A TablesState) (e : ExecResult (above.Answer op) above.World)
-      → one.exec h above.Room op v.seen ≡ e → BothCame Fits (λ a. loaded (tables_of v.real)) d e → (e ≡ Waits → ⊥) → ((a : A) (b : above.Answer op) → Fits a b → answer a ≡ b)
+      → above_exec.exec sizes.version h above.Room op v.seen ≡ e → BothCame Fits (λ a. loaded (tables_of v.real)) d e → (e ≡ Waits → ⊥) → ((a : A) (b : above.Answer op) → Fits a b → answer a ≡ b)
       → ((b : above.Answer op) (u : above.World) → e ≡ Ran b u → SameInodes h v.seen u) → Shows v.real v.seen → Base h v.real v.seen c → (v.seen.desks h).lender ≡ None
-      → CameTo l laws keeps h op v wait (exec_result_in (with_tables v.real) d) answer (λ a. c)
+      → CameTo sizes l laws keeps h op v wait (exec_result_in (with_tables v.real) d) answer (λ a. c)
   from_both op v wait answer Fits c Waits Waits is both no_waits fits same shows base free = absurd (no_waits refl)
   from_both op v wait answer Fits c Waits (Ran b u) is both no_waits fits same shows base free = absurd both
   from_both op v wait answer Fits c Waits (Stops u) is both no_waits fits same shows base free = absurd both
@@ -131,16 +130,16 @@ module _ (l : Labels) (laws : Laws (labelled l)) (keeps : Keeps l) (h : ℕ) (lt
   slot_runs w None e = no_wait false w e
   slot_runs w (Some s) e = no_wait true _ e
 
-  pub slot_acts : (m : Bool → Option above.Mark) → ActsOnce l h Slot m slot
+  pub slot_acts : (m : Bool → Option above.Mark) → ActsOnceAt sizes l h Slot m slot
   unfolding steps.exec premises.May premises.MayWait
   slot_acts m =
-      one_step l laws keeps h Slot m (λ c. steps.TakePlace) (λ c a. a) (λ c a. c) (λ v. tt)
+      one_step sizes l laws keeps h Slot m (λ c. steps.TakePlace) (λ c a. a) (λ c a. c) (λ v. tt)
       (λ v c shows inv base may. (
         (lt, hand_here h (tables_of v.real) v.seen (loaded (tables_of v.real)) shows.tables (runs_here v may.0) ∙ may.1),
         λ x t.
-            subst (λ (d : ExecResult Bool World). CameTo l laws keeps h Slot v ⊥ d (λ a. a) (λ a. c)) (sym (in_tables_is h steps.TakePlace v.real (λ a o. refl) (λ s. refl) (λ a l. refl) (take_place h (tables_of v.real))))
-            (from_both Slot v ⊥ (λ a. a) (λ a b. a ≡ b) c (take_place h (tables_of v.real)) (one.exec h above.Room Slot v.seen) refl
-            (places_are_taken h (tables_of v.real) v.seen (loaded (tables_of v.real)) shows.tables (runs_here v may.0) may.1)
+            subst (λ (d : ExecResult Bool World). CameTo sizes l laws keeps h Slot v ⊥ d (λ a. a) (λ a. c)) (sym (in_tables_is h steps.TakePlace v.real (λ a o. refl) (λ s. refl) (λ a l. refl) (take_place h (tables_of v.real))))
+            (from_both Slot v ⊥ (λ a. a) (λ a b. a ≡ b) c (take_place h (tables_of v.real)) (above_exec.exec sizes.version h above.Room Slot v.seen) refl
+            (places_are_taken sizes.version h (tables_of v.real) v.seen (loaded (tables_of v.real)) shows.tables (runs_here v may.0) may.1)
             (slot_runs v.seen (first_from file_count 0 (is_empty_slot v.seen))) (λ a b e. e) (slot_same v.seen (first_from file_count 0 (is_empty_slot v.seen))) shows base may.0),
       ))
 
@@ -171,10 +170,10 @@ module _ (l : Labels) (laws : Laws (labelled l)) (keeps : Keeps l) (h : ℕ) (lt
   some_hand None p e ne = absurd (ne (sym e))
   some_hand (Some k) p e ne = refl
 
-  pub install_acts : (f : OpenFile) (inode_type : InodeType) (m : Option ℕ → Option above.Mark) → ActsOnce l h (Install f inode_type) m (install f inode_type)
+  pub install_acts : (f : OpenFile) (inode_type : InodeType) (m : Option ℕ → Option above.Mark) → ActsOnceAt sizes l h (Install f inode_type) m (install f inode_type)
   unfolding steps.exec premises.May premises.MayWait
   install_acts f inode_type m =
-      one_step l laws keeps h (Install f inode_type) m (λ c. steps.TakeDescriptor f.number (new_file f inode_type)) (λ c a. a) (λ c a. c) (λ v. tt)
+      one_step sizes l laws keeps h (Install f inode_type) m (λ c. steps.TakeDescriptor f.number (new_file f inode_type)) (λ c a. a) (λ c a. c) (λ v. tt)
       (λ v c shows inv base may. (
         (
           lt,
@@ -182,9 +181,9 @@ module _ (l : Labels) (laws : Laws (labelled l)) (keeps : Keeps l) (h : ℕ) (lt
           fewer_owed f.number (tables_of v.real) v.seen (loaded (tables_of v.real)) shows.tables inv h lt may.1.2,
         ),
         λ x t.
-            subst (λ (d : ExecResult (Option ℕ) World). CameTo l laws keeps h (Install f inode_type) v ⊥ d (λ a. a) (λ a. c)) (sym (in_tables_is h (steps.TakeDescriptor f.number (new_file f inode_type)) v.real (λ a o. refl) (λ s. refl) (λ a l. refl) (open_file h f.number (new_file f inode_type) (tables_of v.real))))
-            (from_both (Install f inode_type) v ⊥ (λ a. a) (λ a b. a ≡ b) c (open_file h f.number (new_file f inode_type) (tables_of v.real)) (one.exec h above.Room (Install f inode_type) v.seen) refl
-            (files_are_opened h f inode_type (tables_of v.real) v.seen (loaded (tables_of v.real)) shows.tables inv (runs_here v may.0) may.1.0 may.1.1)
+            subst (λ (d : ExecResult (Option ℕ) World). CameTo sizes l laws keeps h (Install f inode_type) v ⊥ d (λ a. a) (λ a. c)) (sym (in_tables_is h (steps.TakeDescriptor f.number (new_file f inode_type)) v.real (λ a o. refl) (λ s. refl) (λ a l. refl) (open_file h f.number (new_file f inode_type) (tables_of v.real))))
+            (from_both (Install f inode_type) v ⊥ (λ a. a) (λ a b. a ≡ b) c (open_file h f.number (new_file f inode_type) (tables_of v.real)) (above_exec.exec sizes.version h above.Room (Install f inode_type) v.seen) refl
+            (files_are_opened sizes.version h f inode_type (tables_of v.real) v.seen (loaded (tables_of v.real)) shows.tables inv (runs_here v may.0) may.1.0 may.1.1)
             (opened_runs v.seen f inode_type (v.seen.desks h).hand (has_room (v.seen.desks h).fds)) (λ a b e. e) (λ a u. opened_same v.seen f inode_type (v.seen.desks h).hand (has_room (v.seen.desks h).fds) a u inv may.1.1 refl refl) shows base may.0),
       ))
 
@@ -218,16 +217,16 @@ module _ (l : Labels) (laws : Laws (labelled l)) (keeps : Keeps l) (h : ℕ) (lt
   doubled_back (Some None) = refl
   doubled_back (Some (Some fd)) = refl
 
-  pub double_acts : (fd : ℕ) (m : Option (Option ℕ) → Option above.Mark) → ActsOnce l h (Double fd) m (double fd)
+  pub double_acts : (fd : ℕ) (m : Option (Option ℕ) → Option above.Mark) → ActsOnceAt sizes l h (Double fd) m (double fd)
   unfolding steps.exec premises.May premises.MayWait
   double_acts fd m =
-      one_step l laws keeps h (Double fd) m (λ c. steps.Double fd) (λ c. doubled_to) (λ c a. c) (λ v. tt)
+      one_step sizes l laws keeps h (Double fd) m (λ c. steps.Double fd) (λ c. doubled_to) (λ c a. c) (λ v. tt)
       (λ v c shows inv base may. (
         lt,
         λ x t.
-            subst (λ (d : ExecResult Doubled World). CameTo l laws keeps h (Double fd) v ⊥ d doubled_to (λ a. c)) (sym (in_tables_is h (steps.Double fd) v.real (λ a o. refl) (λ s. refl) (λ a l. refl) (double_descriptor h fd (tables_of v.real))))
-            (from_both (Double fd) v ⊥ doubled_to (λ a b. a ≡ doubled_as b) c (double_descriptor h fd (tables_of v.real)) (one.exec h above.Room (Double fd) v.seen) refl
-            (descriptors_are_doubled h fd (tables_of v.real) v.seen (loaded (tables_of v.real)) shows.tables inv (runs_here v may.0))
+            subst (λ (d : ExecResult Doubled World). CameTo sizes l laws keeps h (Double fd) v ⊥ d doubled_to (λ a. c)) (sym (in_tables_is h (steps.Double fd) v.real (λ a o. refl) (λ s. refl) (λ a l. refl) (double_descriptor h fd (tables_of v.real))))
+            (from_both (Double fd) v ⊥ doubled_to (λ a b. a ≡ doubled_as b) c (double_descriptor h fd (tables_of v.real)) (above_exec.exec sizes.version h above.Room (Double fd) v.seen) refl
+            (descriptors_are_doubled sizes.version h fd (tables_of v.real) v.seen (loaded (tables_of v.real)) shows.tables inv (runs_here v may.0))
             (doubled_runs v.seen (slot_at v.seen h fd) (entry_of v.seen h fd)) (λ a b e. ap doubled_to e ∙ doubled_back b) (λ a u. doubled_same v.seen (slot_at v.seen h fd) (entry_of v.seen h fd) a u refl) shows base may.0),
       ))
 
@@ -261,16 +260,16 @@ module _ (l : Labels) (laws : Laws (labelled l)) (keeps : Keeps l) (h : ℕ) (lt
   shut_back (Some None) = refl
   shut_back (Some (Some n)) = refl
 
-  pub close_acts : (fd : ℕ) (m : Option (Option ℕ) → Option above.Mark) → ActsOnce l h (Shut fd) m (close fd)
+  pub close_acts : (fd : ℕ) (m : Option (Option ℕ) → Option above.Mark) → ActsOnceAt sizes l h (Shut fd) m (close fd)
   unfolding steps.exec premises.May premises.MayWait
   close_acts fd m =
-      one_step l laws keeps h (Shut fd) m (λ c. steps.Close fd) (λ c. shut_to) (λ c a. c) (λ v. tt)
+      one_step sizes l laws keeps h (Shut fd) m (λ c. steps.Close fd) (λ c. shut_to) (λ c a. c) (λ v. tt)
       (λ v c shows inv base may. (
         lt,
         λ x t.
-            subst (λ (d : ExecResult shuts.Shut World). CameTo l laws keeps h (Shut fd) v ⊥ d shut_to (λ a. c)) (sym (in_tables_is h (steps.Close fd) v.real (λ a o. refl) (λ s. refl) (λ a l. refl) (shut_descriptor h fd (tables_of v.real))))
-            (from_both (Shut fd) v ⊥ shut_to (λ a b. a ≡ shut_as b) c (shut_descriptor h fd (tables_of v.real)) (one.exec h above.Room (Shut fd) v.seen) refl
-            (descriptors_are_shut h fd (tables_of v.real) v.seen (loaded (tables_of v.real)) shows.tables inv (runs_here v may.0) (λ i z. may.1.1 z i))
+            subst (λ (d : ExecResult shuts.Shut World). CameTo sizes l laws keeps h (Shut fd) v ⊥ d shut_to (λ a. c)) (sym (in_tables_is h (steps.Close fd) v.real (λ a o. refl) (λ s. refl) (λ a l. refl) (shut_descriptor h fd (tables_of v.real))))
+            (from_both (Shut fd) v ⊥ shut_to (λ a b. a ≡ shut_as b) c (shut_descriptor h fd (tables_of v.real)) (above_exec.exec sizes.version h above.Room (Shut fd) v.seen) refl
+            (descriptors_are_shut sizes.version h fd (tables_of v.real) v.seen (loaded (tables_of v.real)) shows.tables inv (runs_here v may.0) (λ i z. may.1.1 z i))
             (closed_runs v.seen fd (slot_at v.seen h fd) (entry_of v.seen h fd)) (λ a b e. ap shut_to e ∙ shut_back b) (λ a u. closed_same v.seen fd (slot_at v.seen h fd) (entry_of v.seen h fd) a u may.1.0 refl) shows base may.0),
       ))
 
@@ -290,10 +289,10 @@ module _ (l : Labels) (laws : Laws (labelled l)) (keeps : Keeps l) (h : ℕ) (lt
           mode true (OfDevice major) k q = subst (λ (z : Cause). cause_if (Some (refused_as z)) ≡ Some z) (same_Some _ k q) refl
           mode false inode_type k q = subst (λ (z : Cause). cause_if (Some (refused_as z)) ≡ Some z) (same_Some _ k q) refl
 
-  pub check_acts : (fd : ℕ) (m : Option Cause → Option above.Mark) → ActsOnce l h (CheckFile fd) m (check_file fd)
+  pub check_acts : (fd : ℕ) (m : Option Cause → Option above.Mark) → ActsOnceAt sizes l h (CheckFile fd) m (check_file fd)
   unfolding steps.exec premises.May premises.MayWait
   check_acts fd m =
-      one_step l laws keeps h (CheckFile fd) m (λ c. steps.CheckFile want.Write fd) (λ c. cause_if) (λ c a. c) (λ v. tt)
+      one_step sizes l laws keeps h (CheckFile fd) m (λ c. steps.CheckFile want.Write fd) (λ c. cause_if) (λ c a. c) (λ v. tt)
       (λ v c shows inv base may. (
         lt,
         λ x t.
@@ -302,8 +301,8 @@ module _ (l : Labels) (laws : Laws (labelled l)) (keeps : Keeps l) (h : ℕ) (lt
             (ap (λ (o : Option Cause). Ran o v.seen) (sym (ap cause_if e ∙ same_back (write_refused (entry_of v.seen h fd)) (entry_of v.seen h fd) refl))) shows.tables (all_same h v.seen),
       ))
 
-  pub say_acts : (m : Unit {0} → Option above.Mark) → ActsOnce l h Say m say
+  pub say_acts : (m : Unit {0} → Option above.Mark) → ActsOnceAt sizes l h Say m say
   unfolding steps.exec premises.May premises.MayWait
   say_acts m =
-      one_step l laws keeps h Say m (λ c. steps.Reply) (λ c a. a) (λ c a. c) (λ v. tt)
+      one_step sizes l laws keeps h Say m (λ c. steps.Reply) (λ c a. a) (λ c a. c) (λ v. tt)
       (λ v c shows inv base may. (tt, λ x t. came_quiet Say v tt (tables_of v.real) v.seen c shows base may.0 refl shows.tables (all_same h v.seen)))

@@ -73,7 +73,7 @@ none_at o j e = ap (λ (z : Option ℕ). is_at z j) e
 
 pub places_are_taken : PlacesAreTaken
 unfolding take_place
-places_are_taken h t w load shows runs free = at (position is_free t.files) refl
+places_are_taken version h t w load shows runs free = at (position is_free t.files) refl
   where
     same_places : position is_free t.files ≡ first_from file_count 0 (is_empty_slot w)
     same_places = position_first is_free (is_empty_slot w) t.files file_count shows.sound.files
@@ -113,7 +113,7 @@ places_are_taken h t w load shows runs free = at (position is_free t.files) refl
 
 pub files_are_opened : FilesAreOpened
 unfolding open_file
-files_are_opened h f inode_type t w load shows inv runs some start = at (w.desks h).hand refl
+files_are_opened version h f inode_type t w load shows inv runs some start = at (w.desks h).hand refl
   where
     into : ℕ → ℕ → Desk
     into k fd = record (w.desks h) { fds = put (w.desks h).fds fd (Some k); hand = None; opening = None }

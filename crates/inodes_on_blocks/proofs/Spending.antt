@@ -113,7 +113,7 @@ module _ (sizes : Super) (l : Labels) (h : ℕ) where
   W = Both World above.World
 
   abbrev M : Machine
-  M = joined (labelled l) (below sizes)
+  M = joined (labelled sizes.version l) (below sizes)
 
   -- what the hart has spent at most
   abbrev pub Has : W → Spent → Type 0
@@ -122,12 +122,12 @@ module _ (sizes : Super) (l : Labels) (h : ℕ) where
   more_spent : (s t : Spent) (w : W) → NoMore s t → Has w s → Has w t
   more_spent s t w less has = (has.0, λ k e. let few = has.1 k e in let up = less (log_of w.real) in omega (arith, few, up))
 
-  leads : (op : steps.Op) (mark : steps.Answer op → Option (ActOf (labelled l))) (a : steps.Answer op) (s r : Spent) → LeadsTo sizes s op r → Leads M h Has op mark a s r
+  leads : (op : steps.Op) (mark : steps.Answer op → Option (ActOf (labelled sizes.version l))) (a : steps.Answer op) (s r : Spent) → LeadsTo sizes s op r → Leads M h Has op mark a s r
   leads op mark a s r to x v w inv may honest e has =
       ran (steps.exec h x op v.real.state) (step_keeps h v.real.state inv.0.whole x op s r may (subst (λ (z : Super). LeadsTo z s op r) (sym has.0) to)) (same_sizes h x op v.real.state inv.0.whole may honest) e
     where
       ran : (d : ExecResult (steps.Answer op) State) → After (λ t. Accounts h v.real.state.log s → Accounts h t.log r) d → After (λ t. t.log.sizes ≡ v.real.state.log.sizes) d
-          → both (labelled l) h mark v.seen (came_to h op v.real d) ≡ Ran a w → HasSpent sizes h r w.real
+          → both (labelled sizes.version l) h mark v.seen (came_to h op v.real d) ≡ Ran a w → HasSpent sizes h r w.real
       ran Waits keeps same e = absurd (cc e)
       ran (Stops t) keeps same e = absurd (cc e)
       ran (Ran b t) keeps same e = subst (λ (y : W). HasSpent sizes h r y.real) (ap (λ (d : ExecResult (steps.Answer op) W). ran_to w d) e) (same ∙ has.0, keeps has.1)
@@ -147,8 +147,8 @@ module _ (sizes : Super) (l : Labels) (h : ℕ) where
 
   -- So does an operation's that records what the operation spends.
   pub stays_within : (op : above.Op) (m : above.Answer op → Option above.Mark) (p : Handler op) → Spends sizes op p → (c : Carry) (s : Spent) (B : List l.Step → Type 0) (C : above.Answer op → List l.Step → above.World → Type 0) (n : ℕ) (es : List l.Step) (w : W)
-      → Wp M h B (Below (labelled l) (below sizes) h C) (p c m) n es w → Has w s → Wp M h B (λ r fs u. Below (labelled l) (below sizes) h C r fs u × Has u (spent_after op s)) (p c m) n es w
-  stays_within op m p spends c s B C n es w goes has = ends_within (p c m) s (spent_after op s) (spends c m s) B (Below (labelled l) (below sizes) h C) n es w goes has
+      → Wp M h B (Below (labelled sizes.version l) (below sizes) h C) (p c m) n es w → Has w s → Wp M h B (λ r fs u. Below (labelled sizes.version l) (below sizes) h C r fs u × Has u (spent_after op s)) (p c m) n es w
+  stays_within op m p spends c s B C n es w goes has = ends_within (p c m) s (spent_after op s) (spends c m s) B (Below (labelled sizes.version l) (below sizes) h C) n es w goes has
 
 pub programs_stay_within : ProgramsStayWithin
 programs_stay_within sizes op p spends does h s m c w lt few todo stands accounts =

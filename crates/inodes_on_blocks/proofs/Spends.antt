@@ -1,5 +1,5 @@
 -- What the programs of operations record, by their text.
-use Rattle.inodes_on_blocks.proofs.Vocabulary.{◌≡◌, inl, inr, ℕ, zero, suc, ◌+◌, ◌-◌, ◌/◌, ◌==◌, Bool, true, false, not, pos, List, [], ◌∷◌, Option, Some, None, refl, arith, if◌then◌else◌, is_some, slice_index, take, Dinode, Super, numbers_in, block_len, dirents_per_block, Name, same_name, AfterLeave, Commits, Ret, Do, bind, Handover, LockedState, Refuses, Locks, LogPart, ClaimResult, Claims, NoPlace, NoInode, fetch, read_unless, commit_unless, commits, most_writes, after_leave, free_block, clear_bit, inode_blocks, give_back, inode_block, load_unless, put_inode, store_inode, address, table_of, free_numbers, free_table, free_in_table, free_indirect, freed, without_content, FilledMemory, blocks_between, end_of, fetch_at, fetch_block, fetch_named, fetch_number, filled_with, give_fetched, next_block, part_of, read_blocks, read_from, read_part, direct, Address, Direct, InTable, Aim, Named, block_count, found_in, look_at, search_from, with_slot, Found, Spent, unspent, with_bitmap, with_contents, with_inode as with_record, Query, AtNothing, AtName, AtEntries, InodeType, used, Accounts, IsSpent, Carry, Had, Apart, Has, Emptied, NothingMore, Finds, Opened, give_content, file_locked, give_read, learned, looked, number_found, search_entries, seen_record, stat_loaded, stat_locked, kind_of, claim_at, claim_from, claim_in, clear, clear_in, clear_slot, put_named, slot_found, put_record, record_in, NoMore, Records, ProgramsSpend}
+use Rattle.inodes_on_blocks.proofs.Vocabulary.{◌≡◌, inl, inr, ℕ, zero, suc, ◌+◌, ◌-◌, ◌/◌, ◌==◌, Bool, true, false, not, pos, List, [], ◌∷◌, Option, Some, None, refl, arith, if◌then◌else◌, is_some, slice_index, take, Dinode, Super, numbers_in, block_len, dirents_per_block_of, Name, same_name, AfterLeave, Commits, Ret, Do, bind, Handover, LockedState, Refuses, Locks, LogPart, ClaimResult, Claims, NoPlace, NoInode, fetch, read_unless, commit_unless, commits, most_writes, after_leave, free_block, clear_bit, inode_blocks, give_back, inode_block, load_unless, put_inode, store_inode, address, table_of, free_numbers, free_table, free_in_table, free_indirect, freed, without_content, FilledMemory, blocks_between, end_of, fetch_at, fetch_block, fetch_named, fetch_number, filled_with, give_fetched, next_block, part_of, read_blocks, read_from, read_part, direct, Address, Direct, InTable, Aim, Named, block_count, found_in, look_at, search_from, with_slot, Found, Spent, unspent, with_bitmap, with_contents, with_inode as with_record, Query, AtNothing, AtName, AtEntries, InodeType, used, Accounts, IsSpent, Carry, Had, Apart, Has, Emptied, NothingMore, Finds, Opened, give_content, file_locked, give_read, learned, looked, number_found, search_entries, seen_record, stat_loaded, stat_locked, kind_of, claim_at, claim_from, claim_in, clear, clear_in, clear_slot, put_named, slot_found, put_record, record_in, NoMore, Records, ProgramsSpend}
 use Rattle.group_log.specs.declared.log.AfterLeave.TheVariants.{Free}
 use Rattle.directory.specs.Indexes.{cleared, first_of, raised}
 use Rattle.directory.specs.Programs.{Entry, Searched, is_directory, is_live_directory, lookup, or_next, search}
@@ -75,39 +75,39 @@ module _ (sizes : Super) where
     no_next (Some f) x next rec = same s
     no_next None x next rec = rec x
 
-    no_blocks : (n : ℕ) (aim : Aim) (d : Dinode) (k : ℕ) (x : IndexState) → Nothing (search_from n aim d k x)
+    no_blocks : (n : ℕ) (aim : Aim) (d : Dinode) (k : ℕ) (x : IndexState) → Nothing (search_from sizes.version n aim d k x)
     unfolding search_from
     no_blocks zero aim d k x = same s
     no_blocks (suc n) aim d k x =
-        records_bind (fetch_block d k) (look_at aim d k x (search_from n aim d (k + 1))) s s s (no_block d k)
-        (λ f. (s, same s, λ a. (s, refl, no_next (found_in aim d k f.bytes) (raised d k f.bytes x) (search_from n aim d (k + 1)) (no_blocks n aim d (k + 1)))))
+        records_bind (fetch_block d k) (look_at sizes.version aim d k x (search_from sizes.version n aim d (k + 1))) s s s (no_block d k)
+        (λ f. (s, same s, λ a. (s, refl, no_next (found_in sizes.version aim d k f.bytes) (raised sizes.version d k f.bytes x) (search_from sizes.version n aim d (k + 1)) (no_blocks n aim d (k + 1)))))
 
-    no_search : (aim : Aim) (x : Loaded) → Nothing (search aim x)
+    no_search : (aim : Aim) (x : Loaded) → Nothing (search sizes.version aim x)
     no_search aim x =
-        no_next (first_of aim x.inode x.index) x.index (search_from (block_count x.inode - x.index.blocks) aim x.inode x.index.blocks) (no_blocks (block_count x.inode - x.index.blocks) aim x.inode x.index.blocks)
+        no_next (first_of sizes.version aim x.inode x.index) x.index (search_from sizes.version (block_count sizes.version x.inode - x.index.blocks) aim x.inode x.index.blocks) (no_blocks (block_count sizes.version x.inode - x.index.blocks) aim x.inode x.index.blocks)
 
     no_slot : (o : Searched) → Nothing (slot_found o)
     no_slot o = same s
 
     -- the slot of a name sought
-    no_sought : (x : Loaded) (e : Name) → Nothing (bind (search (Named e) x) slot_found)
-    no_sought x e = records_bind (search (Named e) x) slot_found s s s (no_search (Named e) x) no_slot
+    no_sought : (x : Loaded) (e : Name) → Nothing (bind (search sizes.version (Named e) x) slot_found)
+    no_sought x e = records_bind (search sizes.version (Named e) x) slot_found s s s (no_search (Named e) x) no_slot
 
-    no_slot_of : (had : Had) (e : Name) → Nothing (slot_of had e)
+    no_slot_of : (had : Had) (e : Name) → Nothing (slot_of sizes.version had e)
     no_slot_of Apart e = same s
     no_slot_of (Has d NothingMore) e = no_sought d e
-    no_slot_of (Has d (Finds name k)) e = records_if (same_name name e) (Ret (k, d.index)) (bind (search (Named e) d) slot_found) s s (same s) (no_sought d e)
+    no_slot_of (Has d (Finds name k)) e = records_if (same_name name e) (Ret (k, d.index)) (bind (search sizes.version (Named e) d) slot_found) s s (same s) (no_sought d e)
     no_slot_of (Has d (Opened fd offset)) e = no_sought d e
     no_slot_of Emptied e = same s
 
-    no_looked : (looking : Query) (c : Carry) (n : ℕ) (x : Loaded) → Nothing (looked looking c n x)
+    no_looked : (looking : Query) (c : Carry) (n : ℕ) (x : Loaded) → Nothing (looked sizes.version looking c n x)
     no_looked AtNothing c n x = same s
     no_looked (AtName e) c n x =
-        records_bind (lookup e x) (λ o. seen_record c n (record { inode = x.inode; index = o.index }) (learned e o.found) (number_found o.found) true) s s s
-        (records_if (is_live_directory x.inode) (search (Named e) x) (Ret (record { found = None; index = x.index })) s s (no_search (Named e) x) (same s)) (λ o. same s)
+        records_bind (lookup sizes.version e x) (λ o. seen_record c n (record { inode = x.inode; index = o.index }) (learned e o.found) (number_found o.found) true) s s s
+        (records_if (is_live_directory x.inode) (search sizes.version (Named e) x) (Ret (record { found = None; index = x.index })) s s (no_search (Named e) x) (same s)) (λ o. same s)
     no_looked AtEntries c n x =
-        records_bind (search_entries x) (λ o. seen_record c n (record { inode = x.inode; index = o.index }) NothingMore None (not (is_some o.found))) s s s
-        (records_if (is_directory x.inode) (search Entry x) (Ret (record { found = None; index = x.index })) s s (no_search Entry x) (same s)) (λ o. same s)
+        records_bind (search_entries sizes.version x) (λ o. seen_record c n (record { inode = x.inode; index = o.index }) NothingMore None (not (is_some o.found))) s s s
+        (records_if (is_directory x.inode) (search sizes.version Entry x) (Ret (record { found = None; index = x.index })) s s (no_search Entry x) (same s)) (λ o. same s)
 
     no_stat : (c : Carry) (a : LockedState) → Nothing (stat_locked sizes c a)
     no_stat c (Refuses why) = same s
@@ -193,7 +193,7 @@ module _ (sizes : Super) where
 
   pub programs_spend : ProgramsSpend sizes
   programs_spend = record {
-    take = λ n looking c m s. (s, same s, λ content. (s, refl, records_bind (load_unless sizes.inodestart n content) (looked looking c n) s s s (no_load s sizes.inodestart n content) (λ d. no_looked s looking c n d)));
+    take = λ n looking c m s. (s, same s, λ content. (s, refl, records_bind (load_unless sizes.inodestart n content) (looked sizes.version looking c n) s s s (no_load s sizes.inodestart n content) (λ d. no_looked s looking c n d)));
     give = λ n c m s. (s, same s, λ a. (s, refl, same s));
     up_start = λ absolute c m s. (s, same s, λ a. (s, refl, same s));
     up = λ n c m s. (s, same s, λ a. (s, refl, same s));
@@ -214,9 +214,9 @@ module _ (sizes : Super) where
         let r : Spent = with_record n (with_contents 1 s) in
         let t : Spent = with_record n s in
         records_from (clear sizes n e c m) s t r (record_no_more n s)
-        (records_bind (slot_of (c n) e) (clear_slot sizes n e c m) t t r (no_slot_of t (c n) e)
-        (λ at. records_bind (fetch_block (record_in c n) (at.0 / dirents_per_block)) (clear_in sizes n e c m at) t t r (no_block t (record_in c n) (at.0 / dirents_per_block))
-        (λ f. (t, same t, λ a. (r, inr refl, puts_named r n e (record { inode = with_slot at.0 (record_in c n); index = cleared at.0 at.1 }) c m (record_spent sizes n (with_contents 1 s)))))));
+        (records_bind (slot_of sizes.version (c n) e) (clear_slot sizes n e c m) t t r (no_slot_of t (c n) e)
+        (λ at. records_bind (fetch_block (record_in c n) (at.0 / dirents_per_block_of sizes.version)) (clear_in sizes n e c m at) t t r (no_block t (record_in c n) (at.0 / dirents_per_block_of sizes.version))
+        (λ f. (t, same t, λ a. (r, inr refl, puts_named r n e (record { inode = with_slot sizes.version at.0 (record_in c n); index = cleared at.0 at.1 }) c m (record_spent sizes n (with_contents 1 s)))))));
     store = λ n count c m s.
         let d : Dinode = record (record_in c n) { nlink = pos count } in
         let at : ℕ = inode_block sizes.inodestart n in

@@ -1,6 +1,5 @@
 -- Each operation of one step on the tables acts at it.
-use Rattle.inode_machine.specs.VersionOne as one
-use Rattle.inodes_on_blocks.proofs.Vocabulary.{◌≡◌, ◌≢◌, inl, inr, ℕ, ◌<◌, Bool, true, false, Option, Some, None, refl, sym, ◌∙◌, ap, subst, IsSome, none-some, same_Some, Dinode, Node, put, hart_count, same_or, put_same, put_other, HoldsAt, Ran, Laws, Both, TablesState, unlock_inode, settle_inode, UnlockInode, SetDirectory, unlocked, ours_none, ours_some, loaded, World, log_of, tables_of, disk_of, inode_in, Shows, OffsetsShow, on_blocks, Same, Had, Apart, Has, Emptied, Carry, record_had, IsLoaded, InHand, Base, Labels, labelled, Keeps, give, ActsOnce, Loaded, IsIndexOf}
+use Rattle.inodes_on_blocks.proofs.Vocabulary.{◌≡◌, ◌≢◌, inl, inr, ℕ, ◌<◌, Bool, true, false, Option, Some, None, refl, sym, ◌∙◌, ap, subst, IsSome, none-some, same_Some, Dinode, Node, put, hart_count, same_or, put_same, put_other, HoldsAt, Ran, Laws, Both, TablesState, unlock_inode, settle_inode, UnlockInode, SetDirectory, unlocked, ours_none, ours_some, loaded, World, log_of, tables_of, disk_of, inode_in, Shows, OffsetsShow, on_blocks, Same, Had, Apart, Has, Emptied, Carry, record_had, IsLoaded, InHand, Base, Labels, labelled, Keeps, give, ActsOnceAt, Loaded, IsIndexOf, Version, Super}
 use Rattle.fs_machine.specs.Steps as steps
 use Rattle.fs_machine.specs.Premises as premises
 use Rattle.inode_machine.specs.World as above
@@ -10,28 +9,28 @@ use Rattle.inodes_on_blocks.proofs.Basics.{part_same, locks_are_given, directori
 use Rattle.inodes_on_blocks.specs.Handlers.{settle}
 
 -- what is loaded of an inode in hand is as it is seen
-loaded_seen : (o : Had) (n : Option Node) (d : Dinode) (e : Loaded) → IsLoaded o n d → record_had o ≡ Some e → e.inode ≡ d
-loaded_seen Apart n d e is q = absurd is
-loaded_seen (Has f l) n d e is q = ap (λ (x : Loaded). x.inode) (same_Some e f (sym q)) ∙ is.0
-loaded_seen Emptied n d e is q = absurd (none-some e q)
+loaded_seen : (version : Version) (o : Had) (n : Option Node) (d : Dinode) (e : Loaded) → IsLoaded version o n d → record_had o ≡ Some e → e.inode ≡ d
+loaded_seen version Apart n d e is q = absurd is
+loaded_seen version (Has f l) n d e is q = ap (λ (x : Loaded). x.inode) (same_Some e f (sym q)) ∙ is.0
+loaded_seen version Emptied n d e is q = absurd (none-some e q)
 
 -- and its index is right
-indexed_had : (o : Had) (n : Option Node) (d : Dinode) (e : Loaded) → IsLoaded o n d → record_had o ≡ Some e → IsIndexOf e.index n
-indexed_had Apart n d e is q = absurd is
-indexed_had (Has f l) n d e is q = subst (λ (x : Loaded). IsIndexOf x.index n) (same_Some f e q) is.3
-indexed_had Emptied n d e is q = absurd (none-some e q)
+indexed_had : (version : Version) (o : Had) (n : Option Node) (d : Dinode) (e : Loaded) → IsLoaded version o n d → record_had o ≡ Some e → IsIndexOf version e.index n
+indexed_had version Apart n d e is q = absurd is
+indexed_had version (Has f l) n d e is q = subst (λ (x : Loaded). IsIndexOf version x.index n) (same_Some f e q) is.3
+indexed_had version Emptied n d e is q = absurd (none-some e q)
 
-some_loaded : (o : Had) (n : Option Node) (d : Dinode) → IsLoaded o n d → above_exec.is_dead n ≡ true → IsSome (record_had o)
-some_loaded Apart n d is dead = absurd is
-some_loaded (Has f l) n d is dead = refl
-some_loaded Emptied n d is dead = absurd (let q : false ≡ true = sym (ap above_exec.is_dead is.0) ∙ dead in cc)
+some_loaded : (version : Version) (o : Had) (n : Option Node) (d : Dinode) → IsLoaded version o n d → above_exec.is_dead n ≡ true → IsSome (record_had o)
+some_loaded version Apart n d is dead = absurd is
+some_loaded version (Has f l) n d is dead = refl
+some_loaded version Emptied n d is dead = absurd (let q : false ≡ true = sym (ap above_exec.is_dead is.0) ∙ dead in cc)
 
-untyped : (o : Had) (n : Option Node) (d : Dinode) → IsLoaded o n d → n ≡ None → record_had o ≡ None
-untyped Apart n d is e = refl
-untyped (Has f l) n d is e = absurd (is.1 e)
-untyped Emptied n d is e = refl
+untyped : (version : Version) (o : Had) (n : Option Node) (d : Dinode) → IsLoaded version o n d → n ≡ None → record_had o ≡ None
+untyped version Apart n d is e = refl
+untyped version (Has f l) n d is e = absurd (is.1 e)
+untyped version Emptied n d is e = refl
 
-module _ (l : Labels) (laws : Laws (labelled l)) (keeps : Keeps l) (h : ℕ) (lt : h < hart_count) where
+module _ (sizes : Super) (l : Labels) (laws : Laws (labelled sizes.version l)) (keeps : Keeps l) (h : ℕ) (lt : h < hart_count) where
   abbrev W : Type 0
   W = Both World above.World
 
@@ -80,20 +79,20 @@ module _ (l : Labels) (laws : Laws (labelled l)) (keeps : Keeps l) (h : ℕ) (lt
         ])
         (record {
           seen = λ i d e. elim (same_or i n) [
-            | inl q ↦ loaded_seen (c n) (g.disk n) (inode_in (log_of v) n) d hand.loaded_is (sym (ap (put load n (record_had (c n))) q ∙ put_same load n (record_had (c n))) ∙ e) ∙ ap (inode_in (log_of v)) (sym q)
+            | inl q ↦ loaded_seen (log_of v).sizes.version (c n) (g.disk n) (inode_in (log_of v) n) d hand.loaded_is (sym (ap (put load n (record_had (c n))) q ∙ put_same load n (record_had (c n))) ∙ e) ∙ ap (inode_in (log_of v)) (sym q)
             | inr ne ↦ shows.loads.seen i d (sym (put_other load n (record_had (c n)) i ne) ∙ e)
           ];
           dead = λ i some unlocked loose dead. elim (same_or i n) [
-            | inl q ↦ subst IsSome (sym (ap (put load n (record_had (c n))) q ∙ put_same load n (record_had (c n)))) (some_loaded (c n) (g.disk n) (inode_in (log_of v) n) hand.loaded_is ((λ z. above_exec.is_dead (sym s.disk z (sym q z))) ∙ dead))
+            | inl q ↦ subst IsSome (sym (ap (put load n (record_had (c n))) q ∙ put_same load n (record_had (c n)))) (some_loaded (log_of v).sizes.version (c n) (g.disk n) (inode_in (log_of v) n) hand.loaded_is ((λ z. above_exec.is_dead (sym s.disk z (sym q z))) ∙ dead))
             | inr ne ↦ subst IsSome (sym (put_other load n (record_had (c n)) i ne)) (shows.loads.dead i (subst (λ (z : ℕ). 0 < z) (λ z. s.refs z i) some) (sym (unfreed i ne) ∙ unlocked) (sym (s.keeper i ne) ∙ loose) ((λ z. above_exec.is_dead (sym s.disk z i)) ∙ dead))
           ];
           typed = λ i e. elim (same_or i n) [
-            | inl q ↦ ap (put load n (record_had (c n))) q ∙ put_same load n (record_had (c n)) ∙ untyped (c n) (g.disk n) (inode_in (log_of v) n) hand.loaded_is ((λ z. sym s.disk z (sym q z)) ∙ e)
+            | inl q ↦ ap (put load n (record_had (c n))) q ∙ put_same load n (record_had (c n)) ∙ untyped (log_of v).sizes.version (c n) (g.disk n) (inode_in (log_of v) n) hand.loaded_is ((λ z. sym s.disk z (sym q z)) ∙ e)
             | inr ne ↦ put_other load n (record_had (c n)) i ne ∙ shows.loads.typed i ((λ z. sym s.disk z i) ∙ e)
           ];
           indexed = λ i d e. elim (same_or i n) [
-            | inl q ↦ subst (IsIndexOf d.index) (λ z. sym s.disk z (sym q z)) (indexed_had (c n) (g.disk n) (inode_in (log_of v) n) d hand.loaded_is (sym (ap (put load n (record_had (c n))) q ∙ put_same load n (record_had (c n))) ∙ e))
-            | inr ne ↦ subst (IsIndexOf d.index) (λ z. sym s.disk z i) (shows.loads.indexed i d (sym (put_other load n (record_had (c n)) i ne) ∙ e))
+            | inl q ↦ subst (IsIndexOf (log_of v).sizes.version d.index) (λ z. sym s.disk z (sym q z)) (indexed_had (log_of v).sizes.version (c n) (g.disk n) (inode_in (log_of v) n) d hand.loaded_is (sym (ap (put load n (record_had (c n))) q ∙ put_same load n (record_had (c n))) ∙ e))
+            | inr ne ↦ subst (IsIndexOf (log_of v).sizes.version d.index) (λ z. sym s.disk z i) (shows.loads.indexed i d (sym (put_other load n (record_had (c n)) i ne) ∙ e))
           ];
         }) (s.offsets shows.offsets)
 
@@ -116,7 +115,7 @@ module _ (l : Labels) (laws : Laws (labelled l)) (keeps : Keeps l) (h : ℕ) (lt
         ])
 
   pub given_came : (op : above.Op) (n : ℕ) (v : W) (c : Carry) (b : above.Answer op) (t : TablesState) (u : above.World) → Shows v.real v.seen → Base h v.real v.seen c → v.seen.lock n ≡ Some h → (v.seen.desks h).lender ≡ None
-      → one.exec h above.Room op v.seen ≡ Ran b u → tables.Shows t u (put (loaded (tables_of v.real)) n (record_had (c n))) → GivesBack n v.seen u → Came l laws keeps h op v b (with_tables v.real t) (put c n Apart)
+      → above_exec.exec sizes.version h above.Room op v.seen ≡ Ran b u → tables.Shows t u (put (loaded (tables_of v.real)) n (record_had (c n))) → GivesBack n v.seen u → Came sizes l laws keeps h op v b (with_tables v.real t) (put c n Apart)
   given_came op n v c b t u shows base mine free ran after s = record {
     then_ = u;
     ran = ran;
@@ -134,10 +133,10 @@ module _ (l : Labels) (laws : Laws (labelled l)) (keeps : Keeps l) (h : ℕ) (lt
   unlocked_shows t n g load true s = record { sound = s.sound; places = s.places; files = s.files; desks = s.desks; lenders = s.lenders; range = s.range }
   unlocked_shows t n g load false s = record { sound = s.sound; places = s.places; files = s.files; desks = s.desks; lenders = s.lenders; range = s.range }
 
-  pub give_acts : (n : ℕ) (m : Unit {0} → Option above.Mark) → ActsOnce l h (UnlockInode n) m (give n)
+  pub give_acts : (n : ℕ) (m : Unit {0} → Option above.Mark) → ActsOnceAt sizes l h (UnlockInode n) m (give n)
   unfolding steps.exec premises.May
   give_acts n m =
-      one_step l laws keeps h (UnlockInode n) m (λ c. steps.Unlock (record { number = n; content = record_had (c n) }) None) (λ c a. tt) (λ c a. put c n Apart) (λ v. tt)
+      one_step sizes l laws keeps h (UnlockInode n) m (λ c. steps.Unlock (record { number = n; content = record_had (c n) }) None) (λ c a. tt) (λ c a. put c n Apart) (λ v. tt)
       (λ v c shows inv base may. (
         (sym (shows.tables.places.holders n) ∙ may.1, tt),
         λ x t.
@@ -151,12 +150,12 @@ module _ (l : Labels) (laws : Laws (labelled l)) (keeps : Keeps l) (h : ℕ) (lt
   settled_back n g true = record { offsets = λ old. old; opens = λ i ne. open_alike h i g (above_exec.with_directory (unlocked n g true) h n) (part_same (λ d. d.fds) g.desks h (record (g.desks h) { directory = n; left = None }) h refl) refl; disk = refl; lock = refl; refs = refl; keeper = λ i ne. refl; size = refl; joined = λ j. part_same (λ d. d.joined) g.desks h (record (g.desks h) { directory = n; left = None }) j refl; lender = part_same (λ d. d.lender) g.desks h (record (g.desks h) { directory = n; left = None }) h refl }
   settled_back n g false = record { offsets = λ old. old; opens = λ i ne. open_alike h i g (above_exec.with_directory (unlocked n g false) h n) (part_same (λ d. d.fds) g.desks h (record (g.desks h) { directory = n; left = None }) h refl) refl; disk = refl; lock = refl; refs = refl; keeper = λ i ne. put_other g.keeper n None i ne; size = refl; joined = λ j. part_same (λ d. d.joined) g.desks h (record (g.desks h) { directory = n; left = None }) j refl; lender = part_same (λ d. d.lender) g.desks h (record (g.desks h) { directory = n; left = None }) h refl }
 
-  pub settle_acts : (n : ℕ) (m : ℕ → Option above.Mark) → ActsOnce l h (SetDirectory n) m (settle n)
+  pub settle_acts : (n : ℕ) (m : ℕ → Option above.Mark) → ActsOnceAt sizes l h (SetDirectory n) m (settle n)
   unfolding steps.exec premises.May settle_inode
   settle_acts n m =
-      one_step l laws keeps h (SetDirectory n) m (λ c. steps.SetDirectory (record { number = n; content = record_had (c n) })) (λ c a. a) (λ c a. put c n Apart) (λ v. tt)
+      one_step sizes l laws keeps h (SetDirectory n) m (λ c. steps.SetDirectory (record { number = n; content = record_had (c n) })) (λ c a. a) (λ c a. put c n Apart) (λ v. tt)
       (λ v c shows inv base may.
-      let both = directories_are_settled h (record { number = n; content = record_had (c n) }) (tables_of v.real) v.seen (loaded (tables_of v.real)) shows.tables (record { below = lt; free = may.0 }) may.1.0 in (
+      let both = directories_are_settled sizes.version h (record { number = n; content = record_had (c n) }) (tables_of v.real) v.seen (loaded (tables_of v.real)) shows.tables (record { below = lt; free = may.0 }) may.1.0 in (
         (lt, sym (shows.tables.places.holders n) ∙ may.1.0, fewer_owed n (tables_of v.real) v.seen (loaded (tables_of v.real)) shows.tables inv h lt may.1.1),
         λ x t.
             given_came (SetDirectory n) n v c _ _ (above_exec.with_directory (unlocked n v.seen (v.seen.alone n)) h n) shows base may.1.0 may.0 (ap (λ (d : ℕ). Ran d (above_exec.with_directory (unlocked n v.seen (v.seen.alone n)) h n)) (sym both.0)) both.1

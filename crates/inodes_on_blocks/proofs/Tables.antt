@@ -104,7 +104,7 @@ module _ (h : ℕ) (lt : h < hart_count) (v : World) (g : above.World) (shows : 
           let was = base.inodes i (sym (shows.tables.places.holders i) ∙ same.0) in
           record {
             keeps = same.1;
-            loaded_is = (λ (z : IsLoaded (c i) (g.disk i) (inode_in (log_of v) i)). subst (λ (o : Had). IsLoaded o (u.disk i) (inode_in (log_of v) i)) (sym same.3) (subst (λ (n : Option Node). IsLoaded (c i) n (inode_in (log_of v) i)) (sym same.2) z)) was.loaded_is;
+            loaded_is = (λ (z : IsLoaded (log_of v).sizes.version (c i) (g.disk i) (inode_in (log_of v) i)). subst (λ (o : Had). IsLoaded (log_of v).sizes.version o (u.disk i) (inode_in (log_of v) i)) (sym same.3) (subst (λ (n : Option Node). IsLoaded (log_of v).sizes.version (c i) n (inode_in (log_of v) i)) (sym same.2) z)) was.loaded_is;
             holds = subst (λ (n : Option Node). HoldsAt (disk_of (log_of v)) v.owner i n) (sym same.2) was.holds;
             opened = subst (λ (o : Had). IsOpened h i o u) (sym same.3) (open_then h i (c i) g u same.4 was.opened);
           }

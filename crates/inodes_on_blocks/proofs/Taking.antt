@@ -43,7 +43,7 @@ spare_stays h n b c o d x v w g u shows shows_then left kept is =
     let stays = left.inodes n is.lock in
     let becomes = untouched_change (disk_of (log_of v)) (disk_of (log_of w)) (owner_with h n v) (owner_with h n w) n d x (stays_with h n v w g u shows shows_then left stays) is.laid in
     record {
-      others = λ i ne e. let before = left.no_more i e in hand_then h i (c i) v w g u (left.inodes i before) kept is.lent (is.others i ne before);
+      others = λ i ne e. let before = left.no_more i e in hand_then h i (c i) v w g u left.sizes (left.inodes i before) kept is.lent (is.others i ne before);
       lock = stays.lock;
       keeps = (kept_disk h n g u kept is.lent is.keeps).0;
       was = (kept_disk h n g u kept is.lent is.keeps).1 ∙ is.was;

@@ -43,14 +43,14 @@ pub record MarkedFor (h n b bitmap : ℕ) (Stage : above.World → Type 0) (c : 
   pub count : in_hand h v.real ≡ suc (in_hand h z.real)
   pub known : Then z.real
 
-module _ (sizes : Super) (l : Labels) (laws : Laws (labelled l)) (keeps : Keeps l) (h : ℕ) (lt : h < hart_count) (B : List l.Step → Type 0) where
+module _ (sizes : Super) (l : Labels) (laws : Laws (labelled sizes.version l)) (keeps : Keeps l) (h : ℕ) (lt : h < hart_count) (B : List l.Step → Type 0) where
   abbrev W : Type 0
   W = Both World above.World
 
   abbrev M : Machine
-  M = joined (labelled l) (below sizes)
+  M = joined (labelled sizes.version l) (below sizes)
 
-  module _ {A : Type 0} (Q : A → List l.Step → W → Type 0) (G : List l.Step → above.World → Type 0) (stable : Stable (labelled l) (below sizes) laws (below_laws sizes l keeps) h B G)
+  module _ {A : Type 0} (Q : A → List l.Step → W → Type 0) (G : List l.Step → above.World → Type 0) (stable : Stable (labelled sizes.version l) (below sizes) laws (below_laws sizes l keeps) h B G)
       (n : ℕ) (changes : (fs : List l.Step) (g : above.World) → G fs g → Inv g → IsChanging h n g) (c : Carry) (o : Option Node) (d : Dinode) (x : Node) (b : ℕ) (old : List ℕ) (block : IsData sizes b) (clear : bit_of old b ≡ false)
       (Knows Then : World → Type 0) (room : KeepsRoom h sizes.bmapstart Knows Then) where
     abbrev bitmap : ℕ
@@ -71,7 +71,7 @@ module _ (sizes : Super) (l : Labels) (laws : Laws (labelled l)) (keeps : Keeps 
         (there u gs here where_ bytes (subst (λ (q : ℕ). holder_of q (log_of r).seats ≡ Some h) where_ buffer_there.holder)
         (ap (λ (z : Option (List ℕ)). is_some z) (subst (λ (q : ℕ). kept q (log_of r).seats ≡ Some old) where_ buffer_there.has)) knows_there))
       where
-        there : (u : W) (gs : List l.Step) → Here (labelled l) (below sizes) laws (below_laws sizes l keeps) h B G v u gs → bitmap ≡ (log_of u.real).sizes.bmapstart → seen_of (log_of u.real) (log_of u.real).sizes.bmapstart ≡ old
+        there : (u : W) (gs : List l.Step) → Here (labelled sizes.version l) (below sizes) laws (below_laws sizes l keeps) h B G v u gs → bitmap ≡ (log_of u.real).sizes.bmapstart → seen_of (log_of u.real) (log_of u.real).sizes.bmapstart ≡ old
             → holder_of (log_of u.real).sizes.bmapstart (log_of u.real).seats ≡ Some h → is_some (kept (log_of u.real).sizes.bmapstart (log_of u.real).seats) ≡ true → Knows u.real
             → Putting sizes l laws keeps h lt B Q G stable n (log_of u.real).sizes.bmapstart (with_bit b (seen_of (log_of u.real) (log_of u.real).sizes.bmapstart)) k j gs u
         there u gs here where_ bytes holder valid knows_there =

@@ -1,17 +1,22 @@
 -- What this crate's proofs speak of: its own definitions, and what the crates below and the library call things.
-pub use Rattle.inodes_on_blocks.specs.Vocabulary.{After, AtEntries, AtName, AtNothing, Below, Both, Cause, CheckFile, Claim, Claims, Clear, Commit, Commits, Counts, Desk, Device, ExecResult, Dies, Dinode, Directory, DirectorySlot as Slot, Dirent, Do, Double, Doubled, Down, DroppedState, Empty, Enter, Entry, Face, FetchedBlock as BlockInHand, File, FilePlace, Fill, FilledMemory, Forget, Found, Freed, UnlockInode, Given, Halted, Handover, HasRoom, HasWholeBlocks, Hold, Idle, Inode, Install, Inv, IsBytes, IsData, IsDinode, IsDirent, IsGoodSuper, IsHome, IsMember, IsNamedPart, IsOnce, IsOutsideLog, IsSoundTables, IsWellFormed, IsWholeLog, Join, JoinFile, Keeps as Stays, NodeKind, Lasts, Leave, Lend, LendDirectory, Lent, LoanResult, Lock, LockOpen, LockResult, LockedState, Locks, LocksIt, LogPart, LowerLayer, Machine, Moved, Name, Named, Node, NotLocked, Number, OfDevice, OfDirectory, OfFile, Open, OpenFile, Outside, Phase, Prog, Put, Query, Ran, ReadFile, Refused, Refuses, Release, Ret, Say, SeatState, SetDirectory, Short, Shut, ShutState, Sight, SlotState, InodeType, Spent, StatFile, State, Stopped, Stops, Store, Super, TablesState, Take, Taken, Tree, Unused, Up, UpStart, UpToLog, Used, Waits, WalkDown, Walked, Whole, Whom, Wp, WriteFile, WriteResult, Wrote, after_leave, all_slots, at_rest, bind, bit_of, block_at, block_len, block_number, blocks_between, content_of, dead_of, descriptor_count, dinode_at, dirent_len, dirents_per_block, dot, dotdot, fetch, fetch_block, file_count, file_named, free_block, free_in, free_indirect, free_numbers, freed, fresh, grown, hart_count, has, holder_in, holder_of, holding, if_kept, inode_block, inode_blocks, inodes_per_block, is_at, is_block, is_dead, is_free, is_hart, is_held_by, is_marked, is_number, joined, joined_count, kept, largest_size, last, load_unless, lock_holder, look_at, lookup, more, most_blocks, most_recorded, most_slots, named_by, new_record, no_record, numbers_in, numbers_per_block, once, option_map, overwrite, own_of as above_own, place_of, put_block, read_from, read_refused, references_in, refusal_of, released, root, search, seen_in, seen_of, size, slot_at, slot_count, slot_for, slots_of, spell_dirent, spent_after, start_number, store_inode, super_fields, table_of, take_block, times, tree_in, tree_of, unmarked, unspent, unwrap_or, with_bitmap, with_contents, with_offset, with_record as with_inode, with_slot, without_content, write_refused}
+pub use Rattle.inodes_on_blocks.specs.Vocabulary.{After, AtEntries, AtName, AtNothing, Below, Both, Cause, CheckFile, Claim, Claims, Clear, Commit, Commits, Counts, Desk, Device, ExecResult, Dies, Dinode, Directory, DirectorySlot as Slot, Dirent, Do, Double, Doubled, Down, DroppedState, Empty, Enter, Entry, Face, FetchedBlock as BlockInHand, File, FilePlace, Fill, FilledMemory, Forget, Found, Freed, UnlockInode, Given, Halted, Handover, HasRoom, HasWholeBlocks, Hold, Idle, Inode, Install, Inv, IsBytes, IsData, IsDinode, IsDirent, IsGoodSuper, IsHome, IsMember, IsNamedPart, IsOnce, IsOutsideLog, IsSoundTables, IsWellFormed, IsWholeLog, Join, JoinFile, Keeps as Stays, NodeKind, Lasts, Leave, Lend, LendDirectory, Lent, LoanResult, Lock, LockOpen, LockResult, LockedState, Locks, LocksIt, LogPart, LowerLayer, Machine, Moved, Name, Named, Node, NotLocked, Number, OfDevice, OfDirectory, OfFile, Open, OpenFile, Outside, Phase, Prog, Put, Query, Ran, ReadFile, Refused, Refuses, Release, Ret, Say, SeatState, SetDirectory, Short, Shut, ShutState, Sight, SlotState, InodeType, Spent, StatFile, State, Stopped, Stops, Store, Super, TablesState, Take, Taken, Tree, Unused, Up, UpStart, UpToLog, Used, Waits, WalkDown, Walked, Whole, Whom, Wp, WriteFile, Version, WriteResult, Wrote, after_leave, all_slots, at_rest, bind, bit_of, block_at, block_len, block_number, blocks_between, content_of, dead_of, descriptor_count, dinode_at, dirent_len_of, dirents_per_block_of, dot, dotdot, fetch, fetch_block, file_count, file_named, free_block, free_in, free_indirect, free_numbers, freed, fresh, grown, hart_count, has, holder_in, holder_of, holding, if_kept, inode_block, inode_blocks, inodes_per_block, is_at, is_block, is_dead, is_free, is_hart, is_held_by, is_marked, is_number, joined, joined_count, kept, largest_size, last, load_unless, lock_holder, look_at, lookup, magic_of, more, most_blocks, most_recorded, most_slots, named_by, new_directory_size_of, new_record, no_record, numbers_in, numbers_per_block, once, option_map, overwrite, own_of as above_own, place_of, put_block, read_from, read_refused, references_in, refusal_of, released, root, search, seen_in, seen_of, size, slot_at, slot_count, slot_for, slots_of, spell_dirent, spent_after, start_number, store_inode, super_fields, table_of, take_block, times, tree_in, tree_of, unmarked, unspent, unwrap_or, version_in, with_bitmap, with_contents, with_offset, with_record as with_inode, with_slot, without_content, write_refused}
 unfoldable pub use Rattle.inodes_on_blocks.specs.Vocabulary.{any_below, double_descriptor, drop_inode, drop_walked, found_in, give_next, inode_of, lock_file, lock_inode, logged, node_by, numbers_by, numbers_of, one_if, open_file, put, raises, recovered, same_name, settle, settle_inode, shut_descriptor, sizes_of, take_place, u32_at, unlock_inode, unused_from, up_directory, up_inode, with_bit, with_dinode, with_dirent, without_bit, write_blocks, zeros}
 pub use Rattle.inodes_on_blocks.specs.Vocabulary.{node_of}
 pub use Rattle.fs_machine.proofs.Vocabulary.{Bool, Fails, Get, GetLaws, IfSome, InsideFits, IsElsewhere, IsSome, IsSoundInodes, List, LockFile, MatchOption, MayLockFile, None, Option, Passes, PlaceFits, Read, Some, [], ap, arith, as_new, begun_at, cases_eq, change_at, change_first, change_to_end, claim_first, claims, commit_if, commit_unless, commits, cond, count_by, counted_at, dead_in, descriptors_of, exec_result_in, directory_of, double_at, double_to, drop_at, drop_dying, drop_which, dying, eqb-true, failed, false, file_in, filled, first_empty, first_free, first_passes, freed_at as uncounted_freed, freed_if, get_by, get_laws, get_new, get_or, get_or_from_slice_get, give_at, give_by, given_back, given_directory, got_by, group_in, hand_of, has_block, holder_at, if◌then◌else◌, in_log, in_tables, inl, inr, is_file_of, is_none, is_open, is_some, is_unreferenced, is_unused, join_if, join_unless, join_waits, joins, left_at, length, length-set, limit_of, list_any, lock_open as lock_opened, lock_row_at, lock_unless, locked_as, members_with, mine_of, moved_at, names, nat_lt, nat_tests, next_full, next_phase, none-some, not, one_less, open_at, open_by, open_in, open_of, opened, option_and_then, option_map_or, others_given_back, own_of, phase_at_leave, pick, place_named, position-Some, position_or_len, read_block, read_unless, references_at, references_of, refl, replicate, row_of, same_Some, seat_changed, seat_given_back, seat_in, seat_of, seat_of_others, seats_after, seats_at_fault, set, shut_at, slice_get, slice_get-get_or, slice_get-set_other, slice_get-set_same, slice_get_within, slice_index, slice_set, subst, suc, sym, take_at, taken, true, turn_is_out, uncounted_at, under_way, unlock_at, up_whom, with_block, with_content, with_descriptor, with_directory, with_file, with_hand, with_holder, with_offset as tables_offset, with_open, with_pin, with_seat, with_seats, without_holder, written, zero, ℕ, ⊎_elim, ◌&&◌, ◌++◌, ◌+◌, ◌-◌, ◌<◌, ◌==◌, ◌∙◌, ◌∷◌, ◌≡◌, ◌≢◌, ◌≤◌, ◌⊎◌}
 unfoldable pub use Rattle.fs_machine.proofs.Vocabulary.{drop_freed, get_of, lock_of}
 pub use Rattle.inode_machine.proofs.Vocabulary.{Begin, Fills, Fine, Folders, Frees, Goes, Good, Held, HonestPiece, IsForest, IsText, IsThere, JoinResult, Joined, Laws, Lends, LocksNone, Look, Makes, Mark, Mends, Move, NotJoined, Orphans, OwnMove, P, GiveUpWalk, Spares, Spoils, TreeData, Walk, and_then, and_true, any_at, any_none, append-nil, append_assoc, blank, child_of, claimed, close_at, close_if, close_last, close_less, counted_down, counted_up, creates, dead_links, double_if, down_if, either, emptied, enter_if, entry_at, entry_moved, eq_is, eq_isnt, eq_not, eq_self, face_or, file_at, filter, folder, folder_dead, folders_of, handed, has_place, has_room, holds_raised, install_if, installed, is_empty_kind, is_empty_node, is_empty_slot, is_full_directory, is_last, is_nothing, join_at, lend_if, lend_last, length-append, links_in, links_of, live_directory, live_is, lock_at, lock_if, locked, look_live, looking_cost, lowest, map, mended, mode_refusal, more_users, moved_in, new_id, next_used, no_driver, no_node as dead_no_directory, node_or, none_any, number_is, offset_of, one_no, one_yes, onto, own, path_of, place_count, put_other, put_same, raised_at, referenced, reserved, same_or, serving, settled_well, slot_if, slot_or, type_of, spoiled, start_if, sum_changed, sum_none, sum_part, sum_same, take, take-append-drop, unheld, unlocked, unmoved, unopened, up_if, users, uses, view, walk_down_if, with_bytes, with_count, with_dots, with_entry, with_lent, with_made, with_no_bytes, without_entry, write_if, ◌*◌, ◌/◌, ◌^◌, ◌||◌}
-pub use Rattle.plain_tree.specs.VersionOne.{content, elements, parent, resolve, write_kind, effect_with, entries, refusal_with}
-pub use Rattle.inode_machine.specs.VersionOne.{IsName, face_of, made_by, marked, read_at, stat_at, with_mark, write_at}
-unfoldable pub use Rattle.inode_machine.proofs.Vocabulary.{all_used, any_used, cleared, effect_by, entries_by, first_from, first_slot, follow, look, lowest_from, sum_below}
+pub use Rattle.plain_tree.specs.Tree.{elements, parent, resolve}
+pub use Rattle.plain_tree.specs.Steps.{content, entry_bytes, refusal, write_kind}
+unfoldable pub use Rattle.plain_tree.specs.Steps.{effect_with, entries, refusal_with}
+pub use Rattle.inode_machine.specs.Exec.{read_at, stat_at, write_at}
+pub use Rattle.inode_machine.specs.Inodes.{face_of}
+pub use Rattle.inode_machine.specs.Marks.{act_all, made_by, marked, with_mark}
+pub use Rattle.inode_machine.specs.Rules.{IsName}
+unfoldable pub use Rattle.inode_machine.proofs.Vocabulary.{all_used, any_used, cleared, first_from, first_slot, follow, look, lowest_from, sum_below}
 pub use Rattle.image_tree.proofs.Vocabulary.{All, AllByRecursion, AllPairs, Contains-append_left, Contains-append_right, HasGoodLog, HasGoodNumbers, HasGoodTypes, HasMarks, HasRoot, IsDotDot, IsGoodType, NamesOnce, blocks_for, cases_lt, count_of, drop, drop_all, eqb, false_from_ne_true, false≢true, flat_map, get_or-map, get_or-replicate, get_or_append_left, get_or_at, get_or_past, is_directory, is_file, is_live, is_positive, length-map, length-replicate, length-u32s_at, list_all, log_count, log_head_at, logged-empty, lt-ltb, min, nat_le, negsuc, number_in, pos, recovered-empty, recovered-own, recursion_from_All, slot_numbers, slot_of, sum_by-append, sum_by-cons, ℤ, ◌%◌, ◌<ℤ◌, ◌≤ℤ◌}
-pub use Rattle.image_tree.specs.VersionOne.{IsViewOf, HasGoodCounts, HasGoodSizes, HasGoodSlots, IsOneTree, children_of, further_in, further_names_of, named_in, names_of, parent_of, proper_in, proper_names_of, up, first_nodes, first_slots, slot_at as slot_on, slots_in}
-pub use Rattle.fs_layout.specs.VersionOne.{dirent_at, name_len}
-pub use Rattle.inodes_on_blocks.specs.Vocabulary.{One}
+pub use Rattle.image_tree.specs.Images.{IsViewOf, HasGoodCounts, HasGoodSizes, HasGoodSlots, IsOneTree, children_of, further_in, further_names_of, named_in, names_of, parent_of, proper_in, proper_names_of, up, first_nodes, first_slots, slot_at as slot_on, slots_in}
+pub use Rattle.fs_layout.specs.Entry.{dirent_at}
+pub use Rattle.image_versions.specs.Versions.{name_len_of}
 unfoldable pub use Rattle.image_tree.proofs.Vocabulary.{climb, content_block, first_nodes as first_nodes_by, first_slots as first_slots_by, front_blocks, gathered, is_live_directory, is_node, slot_at as slot_by, slots_in as slots_in_by, u32s_at}
 unfoldable pub use Rattle.image_tree.specs.Trees.{kind_of as kind_by}
 pub use Rattle.directory.proofs.Vocabulary.{Aim, FirstIs, IsFirst, address, block_count, dirent_of, drop-drop, eqb-false, fetch_at, fetch_named, fetch_number, first_is, free_of, get_or-append_right, give_fetched, is_name, is_sought, is_used, is_zero, le-leb, name_of, number_of, or_next, others_stay, reads_back, record_at, spell-dirent_of, u16_at-lt, used_of}
@@ -39,7 +44,7 @@ pub use Rattle.inodes_on_blocks.specs.Puts.{Becomes, IsBitPut, IsBytesPut, IsGiv
 pub use Rattle.inodes_on_blocks.specs.Giving.{Avoids, BlocksAreGivenBack, Gave, GaveBlock, GaveBlocks, KeepsRoom, NumbersAreGivenBack, Owns, world_with}
 pub use Rattle.inodes_on_blocks.specs.OnBlocks.{AreOnBlocks, Ghost, is_joined, shown}
 pub use Rattle.inodes_on_blocks.specs.Room.{GivesRoom, HasSpent}
-pub use Rattle.inodes_on_blocks.specs.Acting.{ActsOnce, ActsOnceAt, Answers, DoesIt, DoesItAt, Done, IsDone, alone, whole}
+pub use Rattle.inodes_on_blocks.specs.Acting.{ActsOnceAt, Answers, DoesIt, DoesItAt, Done, IsDone, alone, whole}
 pub use Rattle.inodes_on_blocks.specs.Owners.{Owners, bits_put, inode_put, is_named, named_of, owners_put}
 pub use Rattle.inodes_on_blocks.specs.Storing.{put_record, record_in, store}
 pub use Rattle.std.proofs.Common.{length-take, max, rules, w16}
@@ -123,7 +128,7 @@ pub use Rattle.fs_machine.specs.Steps.{ClaimResult, NoInode, NoPlace}
 pub use Rattle.group_log.proofs.Fresh.{seen_on_disk}
 pub use Rattle.image_tree.proofs.LinkLemmas.{no_directory_zero, up_none}
 pub use Rattle.image_tree.proofs.Views.{checks_see_recovered, trees_see_recovered}
-pub use Rattle.image_tree.specs.VersionOne.{UpToSlots}
+pub use Rattle.image_tree.specs.Images.{UpToSlots}
 pub use Rattle.inode_machine.proofs.Dups.{renewed_same}
 pub use Rattle.inode_machine.proofs.Freeing.{lone_file}
 pub use Rattle.inode_machine.proofs.Numbers.{Number as Numbered, found_number, start_is_number}
@@ -133,7 +138,6 @@ pub use Rattle.inode_machine.proofs.Stats.{node_there}
 pub use Rattle.inode_machine.proofs.Tables.{lowest_free, users_put}
 pub use Rattle.inode_machine.proofs.Turnings.{serving_none}
 pub use Rattle.inode_machine.specs.Marks.{with_left, with_noted, with_opened}
-pub use Rattle.inode_machine.specs.VersionOne.{act_all}
 pub use Rattle.inode_machine.specs.Rules.{LendsNone, Serves}
 pub use Rattle.inode_table.proofs.Stored.{stores_one}
 pub use Rattle.inode_table.specs.NewInodes.{is_free_in}
@@ -162,7 +166,6 @@ pub use Rattle.inode_data.specs.declared.locate.Located.{Located}
 pub use Rattle.plain_tree.specs.declared.step.Action.{Action}
 pub use Rattle.plain_tree.specs.declared.step.Action.TheVariants.{Bump, Chdir, Close, Dup, Enter as EnterStep, Find, Fstat, Inherit, Mkdir, Open as OpenStep, Read as ReadStep, Truncate, Unbump, Unlink, WritePart}
 pub use Rattle.plain_tree.specs.declared.tree.Hart.{Hart}
-pub use Rattle.plain_tree.specs.VersionOne.{entry_bytes, refusal}
 pub use Rattle.fs_machine.specs.InMemory.{IndexState, Loaded, no_index, unindexed}
 pub use Rattle.inodes_on_blocks.specs.Indexes.{IsIndexOf, slot_read}
 pub use Rattle.directory.specs.Indexes.{IsIndex}

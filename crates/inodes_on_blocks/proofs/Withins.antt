@@ -1,5 +1,5 @@
 -- The operations below within what their call's transactions may record, and whole calls.
-use Rattle.inodes_on_blocks.proofs.Vocabulary.{[], ◌<◌, arith, ◌≡◌, ℕ, suc, true, false, is_some, Option, Some, None, sym, ◌∙◌, ap, get_or_from_slice_get, Super, Name, hart_count, Ret, Do, Laws, P, Affords, inode_block, Clear, Empty, Store, Spent, most_recorded, size, unspent, spent_after, with_bitmap, with_contents, with_inode as with_record, more, World, log_of, Shows, Labels, labelled, Keeps, Handler, empty, store, clear, ActsOnceAt, Answers, IsDone, alone, HasSpent, recorded_blocks, Spends, ActsWithin, RecordingsStayWithin}
+use Rattle.inodes_on_blocks.proofs.Vocabulary.{[], ◌<◌, arith, ◌≡◌, ℕ, suc, true, false, is_some, Option, Some, None, sym, ◌∙◌, ap, get_or_from_slice_get, Super, Name, hart_count, Ret, Do, Laws, P, Affords, inode_block, Clear, Empty, Store, Spent, most_recorded, size, unspent, spent_after, with_bitmap, with_contents, with_inode as with_record, more, World, log_of, Shows, Labels, labelled, Keeps, Handler, empty, store, clear, ActsOnceAt, Answers, IsDone, alone, HasSpent, recorded_blocks, Spends, ActsWithin, RecordingsStayWithin, Version}
 use Rattle.inode_machine.specs.World as above
 use Rattle.inode_machine.specs.World.Op.{Free}
 use Rattle.inode_machine.specs.Budget.{HasRoom}
@@ -12,7 +12,7 @@ use Rattle.inodes_on_blocks.proofs.StoreSteps.{store_acts}
 use Rattle.inodes_on_blocks.proofs.Spending.{stays_within}
 use Rattle.inodes_on_blocks.proofs.Spends.{programs_spend}
 
-module _ (sizes : Super) (l : Labels) (laws : Laws (labelled l)) (keeps : Keeps l) (h : ℕ) (lt : h < hart_count) where
+module _ (sizes : Super) (l : Labels) (laws : Laws (labelled sizes.version l)) (keeps : Keeps l) (h : ℕ) (lt : h < hart_count) where
   -- one whose law asks for no room
   pub acts_within : (op : above.Op) (m : above.Answer op → Option above.Mark) (p : Handler op) → Spends sizes op p → ActsOnceAt sizes l h op m p → ActsWithin sizes l h op m p
   acts_within op m p spends acts c s B C es w lasts todo stands few has = stays_within sizes l h op m p spends c s B C (suc (more op)) es w (acts c B C es w lasts todo stands) has
@@ -50,19 +50,19 @@ module _ (sizes : Super) (l : Labels) (laws : Laws (labelled l)) (keeps : Keeps 
 pub recordings_stay_within : (sizes : Super) → RecordingsStayWithin sizes
 recordings_stay_within sizes = record {
   store = λ n count h s m c w lt few todo stands known.
-      store_within sizes alone alone_laws alone_keeps h lt n count m c s (IsDone (Store n count)) (Answers (Store n count)) [] w (lasts_done (Store n count) h) todo stands few (stands.1, known);
+      store_within sizes alone (alone_laws sizes.version) alone_keeps h lt n count m c s (IsDone (Store n count)) (Answers (Store n count)) [] w (lasts_done sizes.version (Store n count) h) todo stands few (stands.1, known);
   clear = λ n e h s m c w lt few todo stands known.
-      clear_within sizes alone alone_laws alone_keeps h lt n e m c s (IsDone (Clear n e)) (Answers (Clear n e)) [] w (lasts_done (Clear n e) h) todo stands few (stands.1, known);
-  empty = λ n h s m c w lt few todo stands known. empty_within sizes alone alone_laws alone_keeps h lt n m c s (IsDone (Empty n)) (Answers (Empty n)) [] w (lasts_done (Empty n) h) todo stands few (stands.1, known);
-  free = λ n h s m c w lt few todo stands known. free_within sizes alone alone_laws alone_keeps h lt n m c s (IsDone (Free n)) (Answers (Free n)) [] w (lasts_done (Free n) h) todo stands few (stands.1, known);
+      clear_within sizes alone (alone_laws sizes.version) alone_keeps h lt n e m c s (IsDone (Clear n e)) (Answers (Clear n e)) [] w (lasts_done sizes.version (Clear n e) h) todo stands few (stands.1, known);
+  empty = λ n h s m c w lt few todo stands known. empty_within sizes alone (alone_laws sizes.version) alone_keeps h lt n m c s (IsDone (Empty n)) (Answers (Empty n)) [] w (lasts_done sizes.version (Empty n) h) todo stands few (stands.1, known);
+  free = λ n h s m c w lt few todo stands known. free_within sizes alone (alone_laws sizes.version) alone_keeps h lt n m c s (IsDone (Free n)) (Answers (Free n)) [] w (lasts_done sizes.version (Free n) h) todo stands few (stands.1, known);
 }
 
 -- ---- whole calls
 
 -- a program with room for each of its operations affords them
-pub affords : (l : Labels) {A : Type 0} (p : P (labelled l) A) (s : Spent) → HasRoom s p → Affords (labelled l) (recorded_blocks l) s p
-affords l (Ret a) s room = tt
-affords l (Do op m k) s room = (room.0, λ a. affords l (k a) (spent_after op s) (room.1 a))
+pub affords : (version : Version) (l : Labels) {A : Type 0} (p : P (labelled version l) A) (s : Spent) → HasRoom s p → Affords (labelled version l) (recorded_blocks version l) s p
+affords version l (Ret a) s room = tt
+affords version l (Do op m k) s room = (room.0, λ a. affords version l (k a) (spent_after op s) (room.1 a))
 
 -- a hart that is in no transaction above has spent nothing
 pub none_spent : (sizes : Super) (h : ℕ) (r : World) (g : above.World) → h < hart_count → Shows r g → (g.desks h).joined ≡ false → (log_of r).sizes ≡ sizes → HasSpent sizes h unspent r

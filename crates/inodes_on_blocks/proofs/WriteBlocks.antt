@@ -20,9 +20,9 @@ file count bytes = record { count = count; kind = File bytes }
 front_long : (at : ℕ) (bytes : List ℕ) → 0 < length bytes → (0 < length (front_of at bytes)) × (at % block_len + length (front_of at bytes) ≤ block_len) × (length (front_of at bytes) ≤ length bytes)
 front_long at bytes some = let part = length-take (block_len - at % block_len) bytes in (omega (arith, part, some), omega (arith, part), omega (arith, part))
 
-pub part_makes : (h n at z count : ℕ) (bytes cur : List ℕ) (c : Carry) (o : Option Node) → 0 < length bytes → at ≤ length cur → at + length (front_of at bytes) ≤ largest_size
-    → MakesPart h n (at / block_len) z (max z (at + length (front_of at bytes))) at bytes c o (file count cur) (file count (overwrite cur at (front_of at bytes)))
-part_makes h n at z count bytes cur c o some start limit d b old r g shows changing ne number long are made =
+pub part_makes : (sizes : Super) (h n at z count : ℕ) (bytes cur : List ℕ) (c : Carry) (o : Option Node) → 0 < length bytes → at ≤ length cur → at + length (front_of at bytes) ≤ largest_size
+    → MakesPart sizes h n (at / block_len) z (max z (at + length (front_of at bytes))) at bytes c o (file count cur) (file count (overwrite cur at (front_of at bytes)))
+part_makes sizes h n at z count bytes cur c o some start limit d b old r g at_ shows changing ne number long are made =
     subst (λ (k : ℕ). Becomes disk new (owner_with h n r) (owner_with h n r) n (sized z d) (sized (max z (k + length front)) d) (file count (overwrite cur k front))) sum
     (bytes_laid disk new (owner_with h n r) n (at / block_len) (at % block_len) count cur front (sized z d) (good_seen (log_of r).sizes (seen_of (log_of r)) (length (log_of r).contents) shows.blocks.seen).whole shows.blocks.running.front changing.laid put
     (omega (arith, start)) (omega (arith, limit)))
@@ -111,14 +111,14 @@ write_steps_are (suc m) j = let more = write_steps_are m j in omega (arith, more
 
 -- ---- block after block
 
-module _ (sizes : Super) (l : Labels) (laws : Laws (labelled l)) (keeps : Keeps l) (h : ℕ) (lt : h < hart_count) (B : List l.Step → Type 0) where
+module _ (sizes : Super) (l : Labels) (laws : Laws (labelled sizes.version l)) (keeps : Keeps l) (h : ℕ) (lt : h < hart_count) (B : List l.Step → Type 0) where
   abbrev W : Type 0
   W = Both World above.World
 
   abbrev M : Machine
-  M = joined (labelled l) (below sizes)
+  M = joined (labelled sizes.version l) (below sizes)
 
-  module _ {A : Type 0} (Q : A → List l.Step → W → Type 0) (G : List l.Step → above.World → Type 0) (stable : Stable (labelled l) (below sizes) laws (below_laws sizes l keeps) h B G)
+  module _ {A : Type 0} (Q : A → List l.Step → W → Type 0) (G : List l.Step → above.World → Type 0) (stable : Stable (labelled sizes.version l) (below sizes) laws (below_laws sizes l keeps) h B G)
       (n : ℕ) (changes : (fs : List l.Step) (g : above.World) → G fs g → Inv g → IsChanging h n g) (c : Carry) (o : Option Node) (s : Spent) (bitmap : s.bitmap ≡ true) (count was : ℕ) (f : WriteResult → P M A) (j : ℕ) where
     -- of this size, with these bytes, after these blocks were recorded
     abbrev In : Dinode → ℕ → List ℕ → List ℕ → List l.Step → W → Type 0
@@ -143,7 +143,7 @@ module _ (sizes : Super) (l : Labels) (laws : Laws (labelled l)) (keeps : Keeps 
     s-blocks zero at z most bytes cur is are long le limit small d fits bs cost w es there rest = nothing_written at z (most + 0) bytes cur le rest d bs w es there fits (omega (arith, cost))
     s-blocks (suc m) at z most bytes cur is are long le limit small d fits bs cost w es there rest =
         s-part sizes l laws keeps h lt B Q G stable n changes c o (file count cur) (file count (overwrite cur at front)) s bitmap true (at / block_len) z (max z (at + size_of)) was most (omega (arith, small)) at bytes are
-        (part_makes h n at z count bytes cur c o some (omega (arith, le, long)) (omega (arith, few, limit))) (write_blocks m sizes (at + size_of) later) f (write_steps m j)
+        (part_makes sizes h n at z count bytes cur c o some (omega (arith, le, long)) (omega (arith, few, limit))) (write_blocks m sizes (at + size_of) later) f (write_steps m j)
         (λ e cs v fs now fits_e less.
         Wp-more M h (f (record { inode = e; upto = at })) B Q j (write_steps m j) fs v (let steps_ = write_steps_are m j in omega (arith, steps_)) (nothing_written at z (most + suc m) bytes cur le rest e cs v fs now fits_e (omega (arith, less))))
         (λ e cs v fs now fits_e less.

@@ -1,6 +1,6 @@
 -- An operation's program below acts at one moment, alone of all operations' programs.
 use Rattle.std.specs.Prelude.{◌≡◌, ℕ, suc, ◌<◌, List, [], ◌∷◌, Option}
-use Rattle.inodes_on_blocks.specs.Vocabulary.{Super, hart_count, Machine, Wp, once, Both, joined, Below, Lasts, more}
+use Rattle.inodes_on_blocks.specs.Vocabulary.{Super, Version, hart_count, Machine, Wp, once, Both, joined, Below, Lasts, more}
 use Rattle.inode_machine.specs.World as above
 use Rattle.inodes_on_blocks.specs.Below.{World}
 use Rattle.inodes_on_blocks.specs.Lowering.{Carry, Kept, Stands, below, Labels, labelled}
@@ -12,12 +12,10 @@ abbrev pub ActsOnceAt : Super → (l : Labels) → ℕ → (op : above.Op) → (
 ActsOnceAt sizes l h op m p =
     (c : Carry) (B : List l.Step → Type 0) (C : above.Answer op → List l.Step → above.World → Type 0) (es : List l.Step)
     (w : Both World above.World)
-    → Lasts (labelled l) h B C → Wp (labelled l) h B C (once op m) (suc (more op)) es w.seen → Stands sizes h w.real w.seen c
-    → Wp (joined (labelled l) (below sizes)) h B (Below (labelled l) (below sizes) h C) (p c m) (suc (more op)) es w
-
--- the same of a program that needs no sizes
-abbrev pub ActsOnce : (l : Labels) → ℕ → (op : above.Op) → (above.Answer op → Option above.Mark) → Handler op → Type 1
-ActsOnce l h op m p = (sizes : Super) → ActsOnceAt sizes l h op m p
+    → Lasts (labelled sizes.version l) h B C → Wp (labelled sizes.version l) h B C (once op m) (suc (more op)) es w.seen
+    → Stands sizes h w.real w.seen c
+    → Wp (joined (labelled sizes.version l) (below sizes)) h B
+    (Below (labelled sizes.version l) (below sizes) h C) (p c m) (suc (more op)) es w
 
 -- ---- the same with the history that is the operations themselves
 
@@ -36,8 +34,8 @@ alone =
       Clean = λ w. Unit {0};
     }
 
-abbrev pub whole : Machine
-whole = labelled alone
+abbrev pub whole : Version → Machine
+whole version = labelled version alone
 
 -- this operation was done, once, and nothing else
 abbrev pub IsDone : (op : above.Op) → List Done → Type 0
@@ -52,8 +50,9 @@ Answers op a es w = es ≡ (op, a) ∷ []
 abbrev pub DoesItAt : Super → (op : above.Op) → Handler op → Type 0
 DoesItAt sizes op p =
     (h : ℕ) (m : above.Answer op → Option above.Mark) (c : Carry) (w : Both World above.World) → h < hart_count
-    → Wp whole h (IsDone op) (Answers op) (once op m) (suc (more op)) [] w.seen → Stands sizes h w.real w.seen c
-    → Wp (joined whole (below sizes)) h (IsDone op) (Below whole (below sizes) h (Answers op)) (p c m) (suc (more op)) [] w
+    → Wp (whole sizes.version) h (IsDone op) (Answers op) (once op m) (suc (more op)) [] w.seen → Stands sizes h w.real w.seen c
+    → Wp (joined (whole sizes.version) (below sizes)) h (IsDone op)
+    (Below (whole sizes.version) (below sizes) h (Answers op)) (p c m) (suc (more op)) [] w
 
 abbrev pub DoesIt : (op : above.Op) → Handler op → Type 0
 DoesIt op p = (sizes : Super) → DoesItAt sizes op p

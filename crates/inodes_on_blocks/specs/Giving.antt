@@ -97,7 +97,8 @@ BlocksAreGivenBack =
     → lock_holder n (tables_of w.real) ≡ Some h → IsData sizes b → w.real.owner b ≡ n → in_hand h w.real ≤ 1
     → holder_of sizes.bmapstart (log_of w.real).seats ≢ Some h
     → s.bitmap ≡ true → size s ≤ most_recorded → HasSpent sizes h s w.real
-    → Wp (joined whole (below sizes)) h (λ es. es ≡ []) (λ a es x. (es ≡ []) × Gave h n b (IsChanging h n) w x × HasSpent sizes h s x.real)
+    → Wp (joined (whole sizes.version) (below sizes)) h (λ es. es ≡ [])
+    (λ a es x. (es ≡ []) × Gave h n b (IsChanging h n) w x × HasSpent sizes h s x.real)
     (free_block sizes.bmapstart b) 3 [] w
 
 -- So does the program that gives back the blocks with these numbers, which are all that the inode has: then it has
@@ -110,7 +111,7 @@ NumbersAreGivenBack =
     → NamesOwned (disk_of (log_of w.real)) w.real.owner n numbers → in_hand h w.real ≤ 1
     → holder_of sizes.bmapstart (log_of w.real).seats ≢ Some h
     → s.bitmap ≡ true → size s ≤ most_recorded → HasSpent sizes h s w.real
-    → Wp (joined whole (below sizes)) h (λ es. es ≡ [])
+    → Wp (joined (whole sizes.version) (below sizes)) h (λ es. es ≡ [])
     (λ a es x. (es ≡ []) × IsChanging h n x.seen × Kept h w.seen x.seen × GaveBlocks h n w.real x.real
     × NamesOwned (disk_of (log_of x.real)) x.real.owner n [] × HasSpent sizes h s x.real)
     (free_numbers sizes.bmapstart numbers (Ret (tt {0}))) (3 * length numbers) [] w

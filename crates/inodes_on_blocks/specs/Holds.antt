@@ -3,7 +3,7 @@
 --   - nodes   by number: the live ones, and the dead ones (count 0) that something still refers to
 --   - owner   by block: the inode that names it, 0 for none
 use Rattle.std.specs.Prelude.{◌≡◌, ◌≢◌, ℕ, zero, suc, ◌*◌, ◌<◌, ◌≤◌, ◌≤ℤ◌, pos, Bool, true, false, List, [], ◌∷◌, ◌++◌, length, map, All, Contains, Option, Some, None, if◌then◌else◌, nat_lt}
-use Rattle.inodes_on_blocks.specs.Vocabulary.{Dinode, Dirent, Used, block_len, dirent_len, sizes_of, DirectorySlot as Slot, Node, NodeKind, Directory, File, Device, Tree, is_live, raises, IsOnce, times, inode_of, is_free, numbers_of, numbers_by, named_by, last, block_number, content_of, slots_of, IsData, is_marked, largest_size, UpToLog}
+use Rattle.inodes_on_blocks.specs.Vocabulary.{Dinode, Dirent, Used, Version, block_len, dirent_len_of, sizes_of, version_in, DirectorySlot as Slot, Node, NodeKind, Directory, File, Device, Tree, is_live, raises, IsOnce, times, inode_of, is_free, numbers_of, numbers_by, named_by, last, block_number, content_of, slots_of, IsData, is_marked, largest_size, UpToLog}
 use Rattle.fs_layout.specs.declared.entry.Dirent.TheVariants.{Free}
 
 abbrev pub Nodes : Type 0
@@ -17,10 +17,10 @@ type_in (Directory slots) = 1
 type_in (File bytes) = 2
 type_in (Device major minor size) = 3
 
-abbrev pub size_in : NodeKind → ℕ
-size_in (Directory slots) = dirent_len * length slots
-size_in (File bytes) = length bytes
-size_in (Device major minor size) = size
+abbrev pub size_in : Version → NodeKind → ℕ
+size_in version (Directory slots) = dirent_len_of version * length slots
+size_in version (File bytes) = length bytes
+size_in version (Device major minor size) = size
 
 -- a device's numbers
 abbrev pub IsDevice : Dinode → NodeKind → Type 0
@@ -29,10 +29,10 @@ IsDevice d (File bytes) = Unit {0}
 IsDevice d (Device major minor size) = (d.major ≡ major) × (d.minor ≡ minor)
 
 -- the inode of a node
-pub record IsInode (d : Dinode) (v : Node) : Type 0 where
+pub record IsInode (version : Version) (d : Dinode) (v : Node) : Type 0 where
   pub kind : d.kind ≡ pos (type_in v.kind)
   pub count : d.nlink ≡ pos v.count
-  pub size : d.size ≡ size_in v.kind
+  pub size : d.size ≡ size_in version v.kind
   pub device : IsDevice d v.kind
 
 -- an inode that nothing refers to: free, or left without a name
@@ -41,13 +41,13 @@ pub record IsUnused (d : Dinode) : Type 0 where
   pub high : d.kind ≤ℤ pos 3
   pub unnamed : d.kind ≢ pos 0 → d.nlink ≡ pos 0
 
-abbrev pub IsRecord : Dinode → Option Node → Type 0
-IsRecord d None = IsUnused d
-IsRecord d (Some v) = IsInode d v
+abbrev pub IsRecord : Version → Dinode → Option Node → Type 0
+IsRecord version d None = IsUnused d
+IsRecord version d (Some v) = IsInode version d v
 
 -- ---- what its blocks say
 
--- a slot as its 16 bytes are read
+-- a slot as its bytes are read
 abbrev pub entry_of : Option Slot → Option Dirent
 entry_of None = Some Free
 entry_of (Some s) = Some (Used s.number s.name)
@@ -83,7 +83,7 @@ pub record OwnsBlocks (disk : List (List ℕ)) (owner : ℕ → ℕ) (i : ℕ) :
 
 -- inode i holds this
 pub record HoldsAt (disk : List (List ℕ)) (owner : ℕ → ℕ) (i : ℕ) (v : Option Node) : Type 0 where
-  pub inode : IsRecord (inode_of disk i) v
+  pub inode : IsRecord (version_in disk) (inode_of disk i) v
   pub content : HasContentOf disk (inode_of disk i) v
   pub room : is_free (inode_of disk i) ≡ false → HasRoom disk (inode_of disk i)
   pub blocks : OwnsBlocks disk owner i

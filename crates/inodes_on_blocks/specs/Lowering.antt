@@ -1,8 +1,7 @@
 -- The machine below as a layer under the machine of whole inodes: what a hart has in it, and what the others leave of
 -- that.
 use Rattle.std.specs.Prelude.{◌≡◌, ◌≢◌, ℕ, ◌<◌, List, length, Bool, true, false, Option, Some, None, is_some, slice_get, slice_index_or}
-use Rattle.inode_machine.specs.VersionOne as one
-use Rattle.inodes_on_blocks.specs.Vocabulary.{Dinode, Loaded, Super, count_of, is_held_by, holder_of, kept, has, Phase, Node, DirectorySlot, Name, same_name, all_slots, hart_count, descriptor_count, is_free, Machine, LowerLayer, lock_holder, LogPart, Outside, seen_of, Entry, go, if_kept, is_hart, own_of, Idle, KeepsFiles, Inv}
+use Rattle.inodes_on_blocks.specs.Vocabulary.{Dinode, Loaded, Super, Version, count_of, is_held_by, holder_of, kept, has, Phase, Node, DirectorySlot, Name, same_name, all_slots, hart_count, descriptor_count, is_free, Machine, LowerLayer, lock_holder, LogPart, Outside, seen_of, Entry, go, if_kept, is_hart, own_of, Idle, KeepsFiles, Inv}
 use Rattle.inodes_on_blocks.specs.Holds.{HoldsAt}
 use Rattle.inodes_on_blocks.specs.Indexes.{IsIndexOf}
 use Rattle.inodes_on_blocks.specs.Puts.{IsUntouched}
@@ -127,15 +126,15 @@ IsOpened h i (Has d (Opened fd offset)) w = HasOpen h i fd offset w
 IsOpened h i Emptied w = Unit {0}
 
 -- what it has of an inode whose lock it has
-abbrev pub IsLoaded : Had → Option Node → Dinode → Type 0
-IsLoaded Apart v d = ⊥
-IsLoaded (Has l k) v d = (l.inode ≡ d) × (v ≢ None) × IsKnown k v × IsIndexOf l.index v
-IsLoaded Emptied v d = (v ≡ None) × (is_free d ≡ true)
+abbrev pub IsLoaded : Version → Had → Option Node → Dinode → Type 0
+IsLoaded version Apart v d = ⊥
+IsLoaded version (Has l k) v d = (l.inode ≡ d) × (v ≢ None) × IsKnown k v × IsIndexOf version l.index v
+IsLoaded version Emptied v d = (v ≡ None) × (is_free d ≡ true)
 
 -- an inode whose lock it has: it keeps that above, and the blocks hold what that is above
 pub record InHand (h i : ℕ) (had : Had) (r : World) (w : above.World) : Type 0 where
   pub keeps : w.keeper i ≡ Some h
-  pub loaded_is : IsLoaded had (w.disk i) (inode_in (log_of r) i)
+  pub loaded_is : IsLoaded (log_of r).sizes.version had (w.disk i) (inode_in (log_of r) i)
   pub holds : HoldsAt (disk_of (log_of r)) r.owner i (w.disk i)
   pub opened : IsOpened h i had w
 
@@ -189,8 +188,8 @@ pub record Labels : Type 1 where
   pub Others : ℕ → above.World → List Step → above.World → Type 0
   pub Clean : above.World → Type 0
 
-abbrev pub labelled : Labels → Machine
-labelled l =
+abbrev pub labelled : Version → Labels → Machine
+labelled version l =
     record {
       Op = above.Op;
       Answer = above.Answer;
@@ -201,8 +200,8 @@ labelled l =
       more = rules.more;
       Outside = above.Outside;
       Honest = rules.Honest;
-      May = one.May;
-      go = go;
+      May = rules.May version;
+      go = go version;
       places = l.places;
       tree = l.tree;
       Takes = l.Takes;

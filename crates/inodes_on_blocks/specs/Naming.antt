@@ -1,7 +1,7 @@
 -- The programs below of operations that change a directory's entries. On a disk of these sizes; c: what the hart has
 -- of the inodes whose locks it has.
 use Rattle.std.specs.Prelude.{ℕ, ◌/◌, ◌%◌, if◌then◌else◌, List, Option, Some}
-use Rattle.inodes_on_blocks.specs.Vocabulary.{option_map, unwrap_or, IndexState, Loaded, Named, Searched, search, cleared, with_dirent, with_slot, Super, dirents_per_block, Name, put, same_name, Ret, Do, bind, unmarked, Handover, fetch, FetchedBlock, fetch_block, inode_block, with_dinode, Clear}
+use Rattle.inodes_on_blocks.specs.Vocabulary.{option_map, unwrap_or, IndexState, Loaded, Named, Searched, search, cleared, with_dirent, with_slot, Super, Version, dirents_per_block_of, Name, put, same_name, Ret, Do, bind, unmarked, Handover, fetch, FetchedBlock, fetch_block, inode_block, with_dinode, Clear}
 use Rattle.fs_layout.specs.declared.entry.Dirent.TheVariants.{Free}
 use Rattle.fs_machine.specs.Steps as steps
 use Rattle.inode_machine.specs.World as above
@@ -26,26 +26,26 @@ abbrev pub slot_found : Searched → P Slotted
 slot_found o = Ret (unwrap_or (option_map (λ f. f.slot) o.found) 0, o.index)
 
 -- the slot of a name: the one that the hart has found, else it is looked for
-abbrev pub slot_of : Had → Name → P Slotted
-slot_of Apart e = Ret (0, no_index)
-slot_of (Has l NothingMore) e = bind (search (Named e) l) slot_found
-slot_of (Has l (Finds name s)) e = if same_name name e then Ret (s, l.index) else bind (search (Named e) l) slot_found
-slot_of (Has l (Opened fd offset)) e = bind (search (Named e) l) slot_found
-slot_of Emptied e = Ret (0, no_index)
+abbrev pub slot_of : Version → Had → Name → P Slotted
+slot_of version Apart e = Ret (0, no_index)
+slot_of version (Has l NothingMore) e = bind (search version (Named e) l) slot_found
+slot_of version (Has l (Finds name s)) e = if same_name name e then Ret (s, l.index) else bind (search version (Named e) l) slot_found
+slot_of version (Has l (Opened fd offset)) e = bind (search version (Named e) l) slot_found
+slot_of version Emptied e = Ret (0, no_index)
 
 -- the slot is put free, and then the directory's record, which is as it was
 abbrev pub clear_in : (sizes : Super) (n : ℕ) (e : Name) → Carry → (above.Answer (Clear n e) → Option above.Mark) → Slotted → FetchedBlock
     → P (Handover (above.Answer (Clear n e)) Carry)
 clear_in sizes n e c m at f =
-    Do (steps.Put f.number (Some (with_dirent (at.0 % dirents_per_block) Free f.bytes))) unmarked (λ _.
+    Do (steps.Put f.number (Some (with_dirent sizes.version (at.0 % dirents_per_block_of sizes.version) Free f.bytes))) unmarked (λ _.
     bind (fetch (inode_block sizes.inodestart n))
     (put_named (Clear n e) above.Room m tt (inode_block sizes.inodestart n) n
-    (record { inode = with_slot at.0 (record_in c n); index = cleared at.0 at.1 }) c))
+    (record { inode = with_slot sizes.version at.0 (record_in c n); index = cleared at.0 at.1 }) c))
 
 abbrev pub clear_slot : (sizes : Super) (n : ℕ) (e : Name) → Carry → (above.Answer (Clear n e) → Option above.Mark) → Slotted
     → P (Handover (above.Answer (Clear n e)) Carry)
-clear_slot sizes n e c m at = bind (fetch_block (record_in c n) (at.0 / dirents_per_block)) (clear_in sizes n e c m at)
+clear_slot sizes n e c m at = bind (fetch_block (record_in c n) (at.0 / dirents_per_block_of sizes.version)) (clear_in sizes n e c m at)
 
 -- It acts when the record is put.
 abbrev pub clear : (sizes : Super) (n : ℕ) (e : Name) → Handler (Clear n e)
-clear sizes n e c m = bind (slot_of (c n) e) (clear_slot sizes n e c m)
+clear sizes n e c m = bind (slot_of sizes.version (c n) e) (clear_slot sizes n e c m)

@@ -1,6 +1,6 @@
 -- The laws of puts: what a disk holds after one block is put, and how a node is changed on it put by put.
 use Rattle.std.specs.Prelude.{◌≡◌, ◌≢◌, ℕ, suc, pos, ◌+◌, ◌*◌, ◌<◌, ◌≤◌, max, true, false, List, [], ◌∷◌, length, slice_index, slice_set, replicate, All, Option, Some, None}
-use Rattle.inodes_on_blocks.specs.Vocabulary.{HasWholeBlocks, overwrite, recovered, sizes_of, block_len, dirent_len, numbers_per_block, Dirent, Dinode, Node, DirectorySlot as Slot, Directory, File, IsData, is_marked, largest_size, direct, inode_of, numbers_of, UpToLog}
+use Rattle.inodes_on_blocks.specs.Vocabulary.{HasWholeBlocks, overwrite, recovered, sizes_of, version_in, block_len, dirent_len_of, numbers_per_block, Dirent, Dinode, Node, DirectorySlot as Slot, Directory, File, IsData, is_marked, largest_size, direct, inode_of, numbers_of, UpToLog}
 use Rattle.inodes_on_blocks.specs.Basics.{IsInode, HoldsAt, NamesOwned, MarksBlocks, entry_of, size_in, IsPut, IsInodePut, IsBitPut, IsBytesPut, IsSlotPut, IsNumberPut, IsUntouched, LeavesOthers, IsLaidOut, IsSpare, slots_with, Becomes, Names, IsTaken, IsGivenBack}
 
 -- ---- what is left
@@ -64,7 +64,8 @@ CountsCanChange =
 -- Nothing in it: a new node, or an emptied one.
 abbrev pub EmptyInodesAreLaidOut : Type 0
 EmptyInodesAreLaidOut =
-    (disk : List (List ℕ)) (owner : ℕ → ℕ) (i : ℕ) (d : Dinode) (v : Node) → IsInode d v → size_in v.kind ≡ 0 → All (λ b. b ≡ 0) d.addrs
+    (disk : List (List ℕ)) (owner : ℕ → ℕ) (i : ℕ) (d : Dinode) (v : Node) → IsInode (version_in disk) d v
+    → size_in (version_in disk) v.kind ≡ 0 → All (λ b. b ≡ 0) d.addrs
     → IsLaidOut disk owner i d v × (NamesOwned disk owner i [] → NamesOwned disk owner i (numbers_of disk d))
 
 -- Bytes of a file, within its size or from it on.
@@ -82,9 +83,10 @@ abbrev pub SlotsCanBePut : Type 0
 SlotsCanBePut =
     (disk new : List (List ℕ)) (owner : ℕ → ℕ) (i s count : ℕ) (slots : List (Option Slot)) (slot : Option Slot) (entry : Dirent)
     (d : Dinode)
-    → IsLaidOut disk owner i d (record { count = count; kind = Directory slots }) → s ≤ length slots → dirent_len * suc s ≤ largest_size
+    → IsLaidOut disk owner i d (record { count = count; kind = Directory slots }) → s ≤ length slots
+    → dirent_len_of (version_in disk) * suc s ≤ largest_size
     → entry_of slot ≡ Some entry → IsSlotPut disk new d s entry
-    → Becomes disk new owner owner i d (record d { size = max d.size (dirent_len * suc s) })
+    → Becomes disk new owner owner i d (record d { size = max d.size (dirent_len_of (version_in disk) * suc s) })
     (record { count = count; kind = Directory (slots_with slots s slot) })
 
 -- A spare block, as with zeros.

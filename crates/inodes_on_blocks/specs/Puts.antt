@@ -1,7 +1,7 @@
 -- A put of one block of a disk that holds nodes, by what is put, and what it leaves. Then an inode that is being
 -- changed, before it is put.
 use Rattle.std.specs.Prelude.{◌≡◌, ◌≢◌, ℕ, suc, ◌+◌, ◌*◌, ◌/◌, ◌%◌, ◌<◌, ◌≤◌, ◌==◌, Bool, List, ◌∷◌, ◌++◌, take, drop, filter, length, slice_index, slice_set, All, Option, if◌then◌else◌}
-use Rattle.inodes_on_blocks.specs.Vocabulary.{Dinode, Dirent, block_len, dirent_len, dirents_per_block, inodes_per_block, overwrite, dinode_at, numbers_in, IsDirent, spell_dirent, recovered, sizes_of, DirectorySlot as Slot, Node, put, IsOnce, direct, inode_of, is_block, numbers_of, block_number, IsData, is_marked}
+use Rattle.inodes_on_blocks.specs.Vocabulary.{Dinode, Dirent, block_len, dirent_len_of, dirents_per_block_of, inodes_per_block, overwrite, dinode_at, numbers_in, IsDirent, spell_dirent, recovered, sizes_of, version_in, DirectorySlot as Slot, Node, put, IsOnce, direct, inode_of, is_block, numbers_of, block_number, IsData, is_marked}
 use Rattle.inodes_on_blocks.specs.Holds.{HasContent, HasRoom, IsInode, IsOwned, NamesOwned, MarksBlocks, MarksNoOthers}
 
 -- ---- what is put
@@ -36,15 +36,21 @@ pub record IsBytesPut (disk new : List (List ℕ)) (d : Dinode) (k at : ℕ) (wr
   pub bytes : recovered new (block_number (numbers_of disk d) k)
       ≡ overwrite (recovered disk (block_number (numbers_of disk d) k)) at written
 
+-- the block that has slot s of directory d, and the byte of it at which the slot begins
+abbrev pub slot_block : List (List ℕ) → Dinode → ℕ → ℕ
+slot_block disk d s = block_number (numbers_of disk d) (s / dirents_per_block_of (version_in disk))
+
+abbrev pub slot_byte : List (List ℕ) → ℕ → ℕ
+slot_byte disk s = dirent_len_of (version_in disk) * (s % dirents_per_block_of (version_in disk))
+
 -- an entry is put into slot s of directory d
 pub record IsSlotPut (disk new : List (List ℕ)) (d : Dinode) (s : ℕ) (entry : Dirent) : Type 0 where
-  pub some : block_number (numbers_of disk d) (s / dirents_per_block) ≢ 0
-  pub block : IsPut disk new (block_number (numbers_of disk d) (s / dirents_per_block))
-  pub spelled : IsDirent entry
-  pub room : dirent_len * (s % dirents_per_block) ≤ length (recovered disk (block_number (numbers_of disk d) (s / dirents_per_block)))
-  pub written : recovered new (block_number (numbers_of disk d) (s / dirents_per_block))
-      ≡ overwrite (recovered disk (block_number (numbers_of disk d) (s / dirents_per_block))) (dirent_len * (s % dirents_per_block))
-      (spell_dirent entry)
+  pub some : slot_block disk d s ≢ 0
+  pub block : IsPut disk new (slot_block disk d s)
+  pub spelled : IsDirent (version_in disk) entry
+  pub room : slot_byte disk s ≤ length (recovered disk (slot_block disk d s))
+  pub written : recovered new (slot_block disk d s)
+      ≡ overwrite (recovered disk (slot_block disk d s)) (slot_byte disk s) (spell_dirent (version_in disk) entry)
 
 -- a number is put at a place of the indirect block of inode d
 pub record IsNumberPut (disk new : List (List ℕ)) (d : Dinode) (place b : ℕ) : Type 0 where
@@ -72,7 +78,7 @@ pub record LeavesOthers (disk new : List (List ℕ)) (owner owner' : ℕ → ℕ
 
 -- Inode d, as it will be put for i, and the blocks that it names say node v, and the blocks are the inode's own.
 pub record IsLaidOut (disk : List (List ℕ)) (owner : ℕ → ℕ) (i : ℕ) (d : Dinode) (v : Node) : Type 0 where
-  pub inode : IsInode d v
+  pub inode : IsInode (version_in disk) d v
   pub content : HasContent disk d v.kind
   pub room : HasRoom disk d
   pub owned : All (λ b. b ≢ 0 → IsOwned disk owner i b) (numbers_of disk d)

@@ -1,6 +1,6 @@
 -- The programs below of the operations that lock an inode and read it. sizes: of the mounted image.
 use Rattle.std.specs.Prelude.{ℕ, ℤ, pos, negsuc, Bool, true, not, Option, Some, None, is_some, if◌then◌else◌}
-use Rattle.inodes_on_blocks.specs.Vocabulary.{option_map, Ret, Do, bind, Handover, Dinode, Loaded, Super, Found, Searched, is_directory, lookup, search, Lock, LockedState, Refuses, Locks, is_number, is_free, InodeType, OfDirectory, OfFile, OfDevice, Face, Sight, Query, AtNothing, AtName, AtEntries, Take, StatFile, load_unless, Name, put}
+use Rattle.inodes_on_blocks.specs.Vocabulary.{option_map, Ret, Do, bind, Handover, Dinode, Loaded, Super, Version, Found, Searched, is_directory, lookup, search, Lock, LockedState, Refuses, Locks, is_number, is_free, InodeType, OfDirectory, OfFile, OfDevice, Face, Sight, Query, AtNothing, AtName, AtEntries, Take, StatFile, load_unless, Name, put}
 use Rattle.directory.specs.Programs.{Entry}
 use Rattle.fs_machine.specs.Steps.{LockFile}
 use Rattle.fs_machine.specs.declared.files.Want.TheVariants as want
@@ -41,8 +41,8 @@ abbrev pub number_found : Option Found → Option ℕ
 number_found o = option_map (λ f. f.number) o
 
 -- a slot that is used past the first two: if the inode is no directory there is none
-abbrev pub search_entries : Loaded → P Searched
-search_entries l = if is_directory l.inode then search Entry l else Ret (record { found = None; index = l.index })
+abbrev pub search_entries : Version → Loaded → P Searched
+search_entries version l = if is_directory l.inode then search version Entry l else Ret (record { found = None; index = l.index })
 
 -- the slot under a name
 abbrev pub learned : Name → Option Found → Knowledge
@@ -58,14 +58,15 @@ seen_record c n l k found empty = Ret
     })
 
 -- what is looked for in it
-abbrev pub looked : Query → Carry → (n : ℕ) → Loaded → P (Handover Sight Carry)
-looked AtNothing c n l = seen_record c n l NothingMore None true
-looked (AtName e) c n l =
-    bind (lookup e l) (λ o. seen_record c n (record l { index = o.index }) (learned e o.found) (number_found o.found) true)
-looked AtEntries c n l =
-    bind (search_entries l) (λ o. seen_record c n (record l { index = o.index }) NothingMore None (not (is_some o.found)))
+abbrev pub looked : Version → Query → Carry → (n : ℕ) → Loaded → P (Handover Sight Carry)
+looked version AtNothing c n l = seen_record c n l NothingMore None true
+looked version (AtName e) c n l =
+    bind (lookup version e l) (λ o. seen_record c n (record l { index = o.index }) (learned e o.found) (number_found o.found) true)
+looked version AtEntries c n l =
+    bind (search_entries version l) (λ o. seen_record c n (record l { index = o.index }) NothingMore None (not (is_some o.found)))
 
 -- It acts when the lock is taken, as the other one does.
 abbrev pub take : Super → (n : ℕ) → (looking : Query) → Handler (Take n looking)
 take sizes n looking c m =
-    Do (Lock n) (λ a. acts (Take n looking) above.Room m) (λ content. bind (load_unless sizes.inodestart n content) (looked looking c n))
+    Do (Lock n) (λ a. acts (Take n looking) above.Room m)
+    (λ content. bind (load_unless sizes.inodestart n content) (looked sizes.version looking c n))

@@ -22,6 +22,7 @@ abbrev pub DoesItSpending : Super → (op : above.Op) → Handler op → Type 0
 DoesItSpending sizes op p =
     (h : ℕ) (s : Spent) (m : above.Answer op → Option above.Mark) (c : Carry) (w : Both World above.World) → h < hart_count
     → size (spent_after op s) ≤ most_recorded
-    → Wp whole h (IsDone op) (Answers op) (once op m) (suc (more op)) [] w.seen → Stands sizes h w.real w.seen c
+    → Wp (whole sizes.version) h (IsDone op) (Answers op) (once op m) (suc (more op)) [] w.seen → Stands sizes h w.real w.seen c
     → Accounts h (log_of w.real) s
-    → Wp (joined whole (below sizes)) h (IsDone op) (Below whole (below sizes) h (Answers op)) (p c m) (suc (more op)) [] w
+    → Wp (joined (whole sizes.version) (below sizes)) h (IsDone op)
+    (Below (whole sizes.version) (below sizes) h (Answers op)) (p c m) (suc (more op)) [] w

@@ -1,6 +1,6 @@
 -- The disk as it is seen while a log runs: of each block the bytes that are seen, and an empty log.
 use Rattle.std.specs.Prelude.{◌≡◌, ◌≢◌, ℕ, zero, suc, ◌+◌, ◌<◌, ◌≤◌, nat_le, nat_lt, ◌&&◌, Bool, List, [], ◌∷◌, ◌++◌, length, replicate, if◌then◌else◌}
-use Rattle.inodes_on_blocks.specs.Vocabulary.{HasWholeBlocks, Super, block_len, magic, super_block, super_magic_at, u32_at, super_fields, recovered, sizes_of, IsOutsideLog, IsGoodSuper, UpToLog}
+use Rattle.inodes_on_blocks.specs.Vocabulary.{HasWholeBlocks, Super, block_len, magic_of, super_block, super_magic_at, u32_at, super_fields, recovered, sizes_of, IsOutsideLog, IsGoodSuper, UpToLog}
 
 -- block b belongs to the log
 abbrev pub is_in_log : Super → ℕ → Bool
@@ -13,7 +13,7 @@ seen_blocks sizes see (suc n) = seen_blocks sizes see n ++ (if is_in_log sizes n
 
 -- the blocks that are seen of a disk which passed the checks of its superblock
 pub record AreSeen (sizes : Super) (see : ℕ → List ℕ) (n : ℕ) : Type 0 where
-  pub is_super : u32_at (see super_block) super_magic_at ≡ magic
+  pub is_super : u32_at (see super_block) super_magic_at ≡ magic_of sizes.version
   pub sizes_are : super_fields (see super_block) ≡ sizes
   pub good : IsGoodSuper sizes
   pub sized : sizes.size ≤ n

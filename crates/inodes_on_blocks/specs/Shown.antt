@@ -50,7 +50,7 @@ pub record LoadsShow (load : ℕ → Option Loaded) (l : LogPart) (refs : ℕ �
   pub dead : (n : ℕ) → 0 < refs n → lock n ≡ None → keeper n ≡ None → is_dead (nodes n) ≡ true → IsSome (load n)
   pub typed : (n : ℕ) → nodes n ≡ None → load n ≡ None
   -- the index of its names is right
-  pub indexed : (n : ℕ) (d : Loaded) → load n ≡ Some d → IsIndexOf d.index (nodes n)
+  pub indexed : (n : ℕ) (d : Loaded) → load n ≡ Some d → IsIndexOf l.sizes.version d.index (nodes n)
 
 -- what is seen are bytes
 abbrev pub AreBytes : LogPart → Type 0

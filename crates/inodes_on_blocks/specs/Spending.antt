@@ -1,6 +1,6 @@
 -- What the programs below of operations record, and that it is no more than their call's transactions may.
 use Rattle.std.specs.Prelude.{◌≡◌, ◌⊎◌, ℕ, suc, Bool, ◌<◌, ◌≤◌, List, [], Option, Some}
-use Rattle.inodes_on_blocks.specs.Vocabulary.{Super, OpenFile, Name, hart_count, Wp, Ret, Do, once, Both, joined, Below, Lasts, Budget, LogPart, Query, InodeType, Take, UnlockInode, UpStart, Up, WalkDown, Down, Forget, Free, Claim, Store, Clear, Empty, Slot, Install, StatFile, LockFile, ReadFile, LockOpen, CheckFile, JoinFile, Double, Shut, SetDirectory, Lend, LendDirectory, Release, Join, Leave, Say, more, Spent, unspent, size, spent_after, most_recorded, with_contents}
+use Rattle.inodes_on_blocks.specs.Vocabulary.{Super, Version, OpenFile, Name, hart_count, Wp, Ret, Do, once, Both, joined, Below, Lasts, Budget, LogPart, Query, InodeType, Take, UnlockInode, UpStart, Up, WalkDown, Down, Forget, Free, Claim, Store, Clear, Empty, Slot, Install, StatFile, LockFile, ReadFile, LockOpen, CheckFile, JoinFile, Double, Shut, SetDirectory, Lend, LendDirectory, Release, Join, Leave, Say, more, Spent, unspent, size, spent_after, most_recorded, with_contents}
 use Rattle.fs_machine.specs.Steps as steps
 use Rattle.inode_machine.specs.World as above
 use Rattle.inodes_on_blocks.specs.Basics.{World, log_of, Carry, Stands, below, Labels, labelled, P, Handler, give, settle, up_start, up, walk_down, down, forget, slot, install, double, close, check_file, lend, lend_directory, release, join, join_file, leave, say, store, whole, IsDone, Answers, used, Accounts, IsSpent}
@@ -12,8 +12,8 @@ use Rattle.inodes_on_blocks.specs.Emptying.{empty, free}
 use Rattle.inodes_on_blocks.specs.Room.{HasSpent, DoesItSpending}
 
 -- what the operations on whole inodes spend, and that it is at most ten blocks
-abbrev pub recorded_blocks : (l : Labels) → Budget (labelled l)
-recorded_blocks l = record { Spent = Spent; after = spent_after; Allowed = λ s. size s ≤ most_recorded }
+abbrev pub recorded_blocks : (version : Version) (l : Labels) → Budget (labelled version l)
+recorded_blocks version l = record { Spent = Spent; after = spent_after; Allowed = λ s. size s ≤ most_recorded }
 
 -- ---- what a program records, by its text
 
@@ -80,20 +80,23 @@ abbrev pub ActsWithin : Super → (l : Labels) → ℕ → (op : above.Op) → (
 ActsWithin sizes l h op m p =
     (c : Carry) (s : Spent) (B : List l.Step → Type 0) (C : above.Answer op → List l.Step → above.World → Type 0) (es : List l.Step)
     (w : Both World above.World)
-    → Lasts (labelled l) h B C → Wp (labelled l) h B C (once op m) (suc (more op)) es w.seen → Stands sizes h w.real w.seen c
+    → Lasts (labelled sizes.version l) h B C → Wp (labelled sizes.version l) h B C (once op m) (suc (more op)) es w.seen
+    → Stands sizes h w.real w.seen c
     → size (spent_after op s) ≤ most_recorded → HasSpent sizes h s w.real
-    → Wp (joined (labelled l) (below sizes)) h B
-    (λ r fs u. Below (labelled l) (below sizes) h C r fs u × HasSpent sizes h (spent_after op s) u.real) (p c m) (suc (more op)) es w
+    → Wp (joined (labelled sizes.version l) (below sizes)) h B
+    (λ r fs u. Below (labelled sizes.version l) (below sizes) h C r fs u × HasSpent sizes h (spent_after op s) u.real)
+    (p c m) (suc (more op)) es w
 
 -- the same with the history that is the operations themselves
 abbrev pub DoesItWithin : Super → (op : above.Op) → Handler op → Type 0
 DoesItWithin sizes op p =
     (h : ℕ) (s : Spent) (m : above.Answer op → Option above.Mark) (c : Carry) (w : Both World above.World) → h < hart_count
     → size (spent_after op s) ≤ most_recorded
-    → Wp whole h (IsDone op) (Answers op) (once op m) (suc (more op)) [] w.seen → Stands sizes h w.real w.seen c
+    → Wp (whole sizes.version) h (IsDone op) (Answers op) (once op m) (suc (more op)) [] w.seen → Stands sizes h w.real w.seen c
     → Accounts h (log_of w.real) s
-    → Wp (joined whole (below sizes)) h (IsDone op)
-    (λ r es u. Below whole (below sizes) h (Answers op) r es u × HasSpent sizes h (spent_after op s) u.real) (p c m) (suc (more op)) [] w
+    → Wp (joined (whole sizes.version) (below sizes)) h (IsDone op)
+    (λ r es u. Below (whole sizes.version) (below sizes) h (Answers op) r es u × HasSpent sizes h (spent_after op s) u.real)
+    (p c m) (suc (more op)) [] w
 
 -- A program that records what its operation spends leaves no more spent, if it does the operation when the
 -- transaction has room for that.

@@ -1,19 +1,19 @@
 -- Each step of the tables is an operation on whole inodes. load: of each inode whose lock isn't out, what is loaded.
 use Rattle.std.specs.Prelude.{◌≡◌, ◌≢◌, ℕ, ◌+◌, ◌<◌, ◌≤◌, Option, Some, None, Bool, false, is_some, if◌then◌else◌, ◌==◌}
-use Rattle.inodes_on_blocks.specs.Vocabulary.{option_map, Loaded, Tree, put, Inode, fresh, TablesState, file_named, hart_count, descriptor_count, root, lock_inode, unlock_inode, up_inode, up_directory, dead_of, DroppedState, Counts, Keeps, Dies, drop_inode, drop_walked, settle_inode, refusal_of, LockedState, Refuses, Locks, lock_file, take_place, open_file, double_descriptor, shut_descriptor, give_next, Cause, OpenFile, InodeType, Query, Entry, World, LockResult, NotLocked, LocksIt, Room, Take, Up, UpStart, WalkDown, Down, Slot, Install, Double, Shut, SetDirectory, StatFile, LockFile, Lend, LendDirectory, Release, exec, start_number, is_dead, slot_at, entry_of, read_refused, write_refused, with_offset, released, Inv, Asks, at_rest}
+use Rattle.inodes_on_blocks.specs.Vocabulary.{option_map, Version, Loaded, Tree, put, Inode, fresh, TablesState, file_named, hart_count, descriptor_count, root, lock_inode, unlock_inode, up_inode, up_directory, dead_of, DroppedState, Counts, Keeps, Dies, drop_inode, drop_walked, settle_inode, refusal_of, LockedState, Refuses, Locks, lock_file, take_place, open_file, double_descriptor, shut_descriptor, give_next, Cause, OpenFile, InodeType, Query, Entry, World, LockResult, NotLocked, LocksIt, Room, Take, Up, UpStart, WalkDown, Down, Slot, Install, Double, Shut, SetDirectory, StatFile, LockFile, Lend, LendDirectory, Release, exec, start_number, is_dead, slot_at, entry_of, read_refused, write_refused, with_offset, released, Inv, Asks, at_rest}
 use Rattle.fs_machine.specs.declared.slots.Given.TheVariants as given
 use Rattle.fs_machine.specs.declared.files.Refused.TheVariants as refused
 use Rattle.fs_machine.specs.declared.files.Want.TheVariants as want
-use Rattle.inode_machine.specs.VersionOne.{seen_in}
+use Rattle.inode_machine.specs.Inodes.{seen_in}
 use Rattle.inodes_on_blocks.specs.Basics.{loaded, BothCame, Runs, file_of, new_file, doubled_as, shut_as, given_as, refused_as}
 use Rattle.inodes_on_blocks.specs.ShownTables.{Shows}
 
 -- the lock of an inode that has a reference is tried; it answers what is loaded
 abbrev pub LocksAreTaken : Type 0
 LocksAreTaken =
-    (h n : ℕ) (looking : Query) (t : TablesState) (w : World) (load : ℕ → Option Loaded) → Shows t w load → 0 < w.refs n
-    → BothCame (λ content seen. (content ≡ load n) × (seen ≡ seen_in n looking (w.disk n))) (λ content. put load n None) (lock_inode h n t)
-    (exec h Room (Take n looking) w)
+    (version : Version) (h n : ℕ) (looking : Query) (t : TablesState) (w : World) (load : ℕ → Option Loaded) → Shows t w load → 0 < w.refs n
+    → BothCame (λ content seen. (content ≡ load n) × (seen ≡ seen_in version n looking (w.disk n))) (λ content. put load n None)
+    (lock_inode h n t) (exec version h Room (Take n looking) w)
 
 -- it is given back with this inode
 abbrev pub LocksAreGiven : Type 0
@@ -24,14 +24,14 @@ LocksAreGiven =
 -- One reference more to an inode, if there is a place for it; to a path's start.
 abbrev pub TablesCountReferences : Type 0
 TablesCountReferences =
-    (h n : ℕ) (t : TablesState) (w : World) (load : ℕ → Option Loaded) → Shows t w load → 1 ≤ n → n < w.all.ninodes
-    → BothCame (λ a there. a ≡ (if there then Some n else None)) (λ a. load) (up_inode n t) (exec h Room (Up n) w)
+    (version : Version) (h n : ℕ) (t : TablesState) (w : World) (load : ℕ → Option Loaded) → Shows t w load → 1 ≤ n → n < w.all.ninodes
+    → BothCame (λ a there. a ≡ (if there then Some n else None)) (λ a. load) (up_inode n t) (exec version h Room (Up n) w)
 
 abbrev pub StartsAreCounted : Type 0
 StartsAreCounted =
-    (h : ℕ) (absolute : Bool) (t : TablesState) (w : World) (load : ℕ → Option Loaded) → Shows t w load
+    (version : Version) (h : ℕ) (absolute : Bool) (t : TablesState) (w : World) (load : ℕ → Option Loaded) → Shows t w load
     → 1 ≤ start_number (w.desks h) absolute → start_number (w.desks h) absolute < w.all.ninodes
-    → BothCame (λ a b. a ≡ b) (λ a. load) (up_inode (start_number (w.desks h) absolute) t) (exec h Room (UpStart absolute) w)
+    → BothCame (λ a b. a ≡ b) (λ a. load) (up_inode (start_number (w.desks h) absolute) t) (exec version h Room (UpStart absolute) w)
 
 -- the hart's directory is the desk's
 abbrev pub DirectoriesAreStarts : Type 0
@@ -53,47 +53,49 @@ load_after n refs load (Dies m d) = put load n None
 
 abbrev pub WalksDropReferences : Type 0
 WalksDropReferences =
-    (h n : ℕ) (t : TablesState) (w : World) (load : ℕ → Option Loaded) → Shows t w load → MayDie n w load
+    (version : Version) (h n : ℕ) (t : TablesState) (w : World) (load : ℕ → Option Loaded) → Shows t w load → MayDie n w load
     → BothCame (λ a last. a ≡ (if last then Keeps else Counts)) (load_after n (w.refs n) load) (drop_walked n t)
-    (exec h Room (WalkDown n) w)
+    (exec version h Room (WalkDown n) w)
 
 abbrev pub ReferencesAreDropped : Type 0
 ReferencesAreDropped =
-    (h n : ℕ) (t : TablesState) (w : World) (load : ℕ → Option Loaded) → Shows t w load → MayDie n w load
+    (version : Version) (h n : ℕ) (t : TablesState) (w : World) (load : ℕ → Option Loaded) → Shows t w load → MayDie n w load
     → BothCame (λ a last. a ≡ (if last then Dies n (load n) else Counts)) (load_after n (w.refs n) load) (drop_inode h n t)
-    (exec h Room (Down n) w)
+    (exec version h Room (Down n) w)
 
 -- A place for an open file comes into the hart's hand.
 abbrev pub PlacesAreTaken : Type 0
 PlacesAreTaken =
-    (h : ℕ) (t : TablesState) (w : World) (load : ℕ → Option Loaded) → Shows t w load → Runs h w → (w.desks h).hand ≡ None
-    → BothCame (λ a b. a ≡ b) (λ a. load) (take_place h t) (exec h Room Slot w)
+    (version : Version) (h : ℕ) (t : TablesState) (w : World) (load : ℕ → Option Loaded) → Shows t w load
+    → Runs h w → (w.desks h).hand ≡ None
+    → BothCame (λ a b. a ≡ b) (λ a. load) (take_place h t) (exec version h Room Slot w)
 
 -- A file is opened there, at its beginning, by the lowest free descriptor; if there is none the place is given back.
 abbrev pub FilesAreOpened : Type 0
 FilesAreOpened =
-    (h : ℕ) (f : OpenFile) (inode_type : InodeType) (t : TablesState) (w : World) (load : ℕ → Option Loaded) → Shows t w load
-    → Inv w → Runs h w → (w.desks h).hand ≢ None → f.offset ≡ 0
-    → BothCame (λ a b. a ≡ b) (λ a. load) (open_file h f.number (new_file f inode_type) t) (exec h Room (Install f inode_type) w)
+    (version : Version) (h : ℕ) (f : OpenFile) (inode_type : InodeType) (t : TablesState) (w : World) (load : ℕ → Option Loaded)
+    → Shows t w load → Inv w → Runs h w → (w.desks h).hand ≢ None → f.offset ≡ 0
+    → BothCame (λ a b. a ≡ b) (λ a. load) (open_file h f.number (new_file f inode_type) t) (exec version h Room (Install f inode_type) w)
 
 -- One more descriptor names what a descriptor names.
 abbrev pub DescriptorsAreDoubled : Type 0
 DescriptorsAreDoubled =
-    (h fd : ℕ) (t : TablesState) (w : World) (load : ℕ → Option Loaded) → Shows t w load → Inv w → Runs h w
-    → BothCame (λ a b. a ≡ doubled_as b) (λ a. load) (double_descriptor h fd t) (exec h Room (Double fd) w)
+    (version : Version) (h fd : ℕ) (t : TablesState) (w : World) (load : ℕ → Option Loaded) → Shows t w load → Inv w → Runs h w
+    → BothCame (λ a b. a ≡ doubled_as b) (λ a. load) (double_descriptor h fd t) (exec version h Room (Double fd) w)
 
 -- A descriptor goes, and with the last one its open file.
 abbrev pub DescriptorsAreShut : Type 0
 DescriptorsAreShut =
-    (h fd : ℕ) (t : TablesState) (w : World) (load : ℕ → Option Loaded) → Shows t w load → Inv w → Runs h w
+    (version : Version) (h fd : ℕ) (t : TablesState) (w : World) (load : ℕ → Option Loaded) → Shows t w load → Inv w → Runs h w
     → ((i : ℕ) → (w.desks h).lent i ≡ None)
-    → BothCame (λ a b. a ≡ shut_as b) (λ a. load) (shut_descriptor h fd t) (exec h Room (Shut fd) w)
+    → BothCame (λ a b. a ≡ shut_as b) (λ a. load) (shut_descriptor h fd t) (exec version h Room (Shut fd) w)
 
 -- A lock is given back with this inode, which is the hart's directory then.
 abbrev pub DirectoriesAreSettled : Type 0
 DirectoriesAreSettled =
-    (h : ℕ) (v : Inode) (t : TablesState) (w : World) (load : ℕ → Option Loaded) → Shows t w load → Runs h w → w.lock v.number ≡ Some h
-    → BothCame (λ a b. a ≡ b) (λ a. put load v.number v.content) (settle_inode h v t) (exec h Room (SetDirectory v.number) w)
+    (version : Version) (h : ℕ) (v : Inode) (t : TablesState) (w : World) (load : ℕ → Option Loaded) → Shows t w load
+    → Runs h w → w.lock v.number ≡ Some h
+    → BothCame (λ a b. a ≡ b) (λ a. put load v.number v.content) (settle_inode h v t) (exec version h Room (SetDirectory v.number) w)
 
 -- What a descriptor names, and why it isn't to be had for a thing.
 abbrev pub DescriptorsNameFiles : Type 0
@@ -114,8 +116,9 @@ load_locked load (Locks f content) = put load f.number None
 
 abbrev pub FilesAreLocked : Type 0
 FilesAreLocked =
-    (h fd : ℕ) (t : TablesState) (w : World) (load : ℕ → Option Loaded) → Shows t w load → Inv w → Runs h w
-    → BothCame (λ a b. FitsStat load (entry_of w h fd) a) (load_locked load) (lock_file h want.Stat fd t) (exec h Room (StatFile fd) w)
+    (version : Version) (h fd : ℕ) (t : TablesState) (w : World) (load : ℕ → Option Loaded) → Shows t w load → Inv w → Runs h w
+    → BothCame (λ a b. FitsStat load (entry_of w h fd) a) (load_locked load) (lock_file h want.Stat fd t)
+    (exec version h Room (StatFile fd) w)
 
 -- The same to read of it.
 abbrev pub FitsRead : (load : ℕ → Option Loaded) → Option Entry → Option Cause → LockedState → LockResult → Type 0
@@ -125,9 +128,9 @@ FitsRead load (Some e) None a b = (a ≡ Locks (file_of e) (load e.file.number))
 
 abbrev pub FilesAreLockedToRead : Type 0
 FilesAreLockedToRead =
-    (h fd : ℕ) (t : TablesState) (w : World) (load : ℕ → Option Loaded) → Shows t w load → Inv w → Runs h w
+    (version : Version) (h fd : ℕ) (t : TablesState) (w : World) (load : ℕ → Option Loaded) → Shows t w load → Inv w → Runs h w
     → BothCame (FitsRead load (entry_of w h fd) (read_refused (entry_of w h fd))) (load_locked load) (lock_file h want.Read fd t)
-    (exec h Room (LockFile fd) w)
+    (exec version h Room (LockFile fd) w)
 
 -- A lock is given back with this inode, and the offset of what a descriptor names moves.
 abbrev pub OffsetsAreMoved : Type 0
@@ -140,21 +143,22 @@ OffsetsAreMoved =
 -- A hart's next descriptor is handed on to the child that it serves, or its directory if it has none.
 abbrev pub DescriptorsAreGiven : Type 0
 DescriptorsAreGiven =
-    (h child from : ℕ) (t : TablesState) (w : World) (load : ℕ → Option Loaded) → Shows t w load → Inv w → Runs h w
-    → Asks h (Lend child from) w → from ≤ descriptor_count
-    → BothCame (λ a b. a ≡ given_as b) (λ a. load) (give_next h child from t) (exec h Room (Lend child from) w)
+    (version : Version) (h child from : ℕ) (t : TablesState) (w : World) (load : ℕ → Option Loaded) → Shows t w load → Inv w → Runs h w
+    → Asks version h (Lend child from) w → from ≤ descriptor_count
+    → BothCame (λ a b. a ≡ given_as b) (λ a. load) (give_next h child from t) (exec version h Room (Lend child from) w)
 
 -- The directory is, past the last descriptor.
 abbrev pub DirectoriesAreGiven : Type 0
 DirectoriesAreGiven =
-    (h child : ℕ) (t : TablesState) (w : World) (load : ℕ → Option Loaded) → Shows t w load → Inv w → Runs h w
-    → Asks h (LendDirectory child) w
-    → BothCame (λ a b. a ≡ given.Directory b) (λ a. load) (give_next h child descriptor_count t) (exec h Room (LendDirectory child) w)
+    (version : Version) (h child : ℕ) (t : TablesState) (w : World) (load : ℕ → Option Loaded) → Shows t w load → Inv w → Runs h w
+    → Asks version h (LendDirectory child) w
+    → BothCame (λ a b. a ≡ given.Directory b) (λ a. load) (give_next h child descriptor_count t)
+    (exec version h Room (LendDirectory child) w)
 
 -- When the child is released the tables stay.
 abbrev pub ChildrenAreReleased : Type 0
-ChildrenAreReleased = (h child : ℕ) (t : TablesState) (w : World) (load : ℕ → Option Loaded) → Shows t w load → Inv w → Runs h w
-    → Asks h (Release child) w → Shows t (released w h child) load
+ChildrenAreReleased = (version : Version) (h child : ℕ) (t : TablesState) (w : World) (load : ℕ → Option Loaded) → Shows t w load → Inv w
+    → Runs h w → Asks version h (Release child) w → Shows t (released w h child) load
 
 -- Fresh tables show a world at rest whose harts are all in the root.
 abbrev pub FreshTablesShow : Type 0

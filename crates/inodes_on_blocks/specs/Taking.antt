@@ -39,6 +39,6 @@ BlocksAreTaken =
     → (w.seen.desks h).lender ≡ None
     → Stands sizes h w.real w.seen c → lock_holder n (tables_of w.real) ≡ Some h → w.seen.disk n ≡ Some x → s.bitmap ≡ true
     → size s < most_recorded → HasSpent sizes h s w.real
-    → Wp (joined whole (below sizes)) h (λ es. es ≡ [])
+    → Wp (joined (whole sizes.version) (below sizes)) h (λ es. es ≡ [])
     (λ a es v. (es ≡ []) × ChangesStill h n c (inode_in (log_of w.real) n) x w v × TookOne sizes h s a v.real)
     (take_block sizes.bmapstart sizes.size) 6 [] w

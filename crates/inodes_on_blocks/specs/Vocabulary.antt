@@ -1,7 +1,8 @@
 -- What the crates below call things: the words that this crate's definitions and contracts use.
 pub use Rattle.image_tree.specs.Vocabulary.{IsOutsideLog, bit_of, block_at, block_len, dinode_at, inodes_per_block, numbers_in, super_block, super_magic_at}
-pub use Rattle.fs_layout.specs.VersionOne.{dirent_len, dirents_per_block, magic}
-pub use Rattle.image_versions.specs.declared.version.Version.TheVariants.{One}
+pub use Rattle.image_versions.specs.Versions.{dirent_len_of, dirents_per_block_of, magic_of, new_directory_size_of}
+pub use Rattle.image_versions.specs.declared.version.Version.{Version}
+pub use Rattle.fs_layout.specs.Recovered.{version_in}
 unfoldable pub use Rattle.image_tree.specs.Vocabulary.{logged, recovered, sizes_of, u32_at}
 pub use Rattle.fs_machine.specs.Vocabulary.{ExecResult, Do, HasRoom, IsHome, IsMember, Prog, Ran, Ret, SeatState, SlotState, Stops, Waits, count_of, has, holder_of, is_held_by, joined as joined_count, kept, once, option_map, seen_in, unmarked, unwrap_or}
 pub use Rattle.inode_data.specs.Vocabulary.{Answer, Counts, Dies, DroppedState, Freed, Held, Keeps, Put, bind, fetch, free_block, inode_block, numbers_per_block, overwrite, store as store_inode, take_block}
@@ -14,10 +15,9 @@ pub use Rattle.image_tree.specs.Checks.{IsData, IsGoodSuper, is_marked, largest_
 pub use Rattle.inode_machine.specs.Inodes.{AtEntries, AtName, AtNothing, Face, OfDevice, OfDirectory, OfFile, Query, Sight, InodeType}
 pub use Rattle.block_device.specs.Blocks.{HasBytes, HasWholeBlocks}
 pub use Rattle.fs_machine.specs.LogPart.{LogPart, Outside, put_block}
-pub use Rattle.inode_machine.specs.Rules.{Idle, Inv, KeepsFiles, if_kept, is_hart, more, own_of}
-pub use Rattle.inode_machine.specs.VersionOne.{Asks}
+pub use Rattle.inode_machine.specs.Rules.{Asks, Idle, Inv, KeepsFiles, if_kept, is_hart, more, own_of}
 pub use Rattle.fs_machine.specs.Shown.{seen_of}
-pub use Rattle.image_tree.specs.VersionOne.{IsWellFormed, UpToLog, node_of, slots_of, tree_in}
+pub use Rattle.image_tree.specs.Images.{IsWellFormed, UpToLog, node_of, slots_of, tree_in}
 unfoldable pub use Rattle.image_tree.specs.Trees.{node_of as node_by}
 pub use Rattle.inode_machine.specs.World.Op.{CheckFile, Claim, Clear, Double, Down, Empty, Enter, Fill, Forget, Free, UnlockInode, Install, Join, JoinFile, Leave, Lend, LendDirectory, LockFile, LockOpen, ReadFile, Release, Say, SetDirectory, Shut, Slot, StatFile, Store, Take, Up, UpStart, WalkDown, WriteFile}
 pub use Rattle.atomic_programs.specs.Logic.{Wp}
@@ -41,8 +41,7 @@ pub use Rattle.fs_machine.specs.declared.slots.Doubled.{Doubled}
 pub use Rattle.fs_machine.specs.declared.slots.Given.{Given}
 pub use Rattle.image_tree.specs.Lists.{IsOnce, times}
 pub use Rattle.inode_data.specs.Freeing.{free_indirect, free_numbers, freed, without_content}
-pub use Rattle.inode_machine.specs.Exec.{entry_of, file_count, is_at, is_dead, read_refused, released, slot_at, start_number, with_offset, write_refused}
-pub use Rattle.inode_machine.specs.VersionOne.{exec}
+pub use Rattle.inode_machine.specs.Exec.{entry_of, exec, file_count, is_at, is_dead, read_refused, released, slot_at, start_number, with_offset, write_refused}
 pub use Rattle.inode_machine.specs.Theory.{at_rest}
 pub use Rattle.plain_tree.specs.Explains.{IsNamedPart}
 pub use Rattle.atomic_programs.specs.Spending.{Budget}
@@ -67,7 +66,7 @@ pub use Rattle.inode_data.specs.Programs.{FilledMemory, blocks_between, read_fro
 pub use Rattle.inode_data.specs.Widths.{most_bytes}
 pub use Rattle.inode_data.specs.Writing.{grown}
 unfoldable pub use Rattle.inode_data.specs.Writing.{write_blocks}
-pub use Rattle.inode_machine.specs.VersionOne.{go}
+pub use Rattle.inode_machine.specs.Marks.{go}
 pub use Rattle.inode_table.specs.NewInodes.{free_in, inode_blocks, new_record}
 unfoldable pub use Rattle.tree_laws.specs.WellFormed.{raises}
 pub use Rattle.fs_layout.specs.declared.entry.Dirent.{Dirent}

@@ -25,6 +25,7 @@ use Rattle.tree_laws.specs.Vocabulary.{hart_count}
 use Rattle.whole_calls.specs.Wholes.{WholeFits}
 use Rattle.kept_histories.proofs.KeptCalls.{KeptAs}
 use Rattle.kept_histories.proofs.Together.{HartAt, Together}
+use Rattle.image_versions.specs.declared.version.Version.{Version}
 
 module _ {D : Type 0} (contents : D → List (List ℕ)) (failures : D → ℕ) (sizes : Super) where
   -- room: no step has found none
@@ -34,6 +35,7 @@ module _ {D : Type 0} (contents : D → List (List ℕ)) (failures : D → ℕ) 
     pub stage : stage_of k ≡ (block_moves sizes).tree s.world
     pub book : IsBook k b
     pub room : k.full ≡ false
+    pub version : k.version ≡ sizes.version
 
 -- ---- harts
 
@@ -65,8 +67,8 @@ module _ (sizes : Super) where
       record {
         stands = at.stands;
         sized = at.sized;
-        kept = subst (λ (z : Under). KeptAs (Do u.op u.mark u.rest) z) (sym same) at.kept;
-        fits = subst (λ (z : Under). WholeFits z.listed z.whole) (sym same) at.fits;
+        kept = subst (λ (z : Under). KeptAs sizes.version (Do u.op u.mark u.rest) z) (sym same) at.kept;
+        fits = subst (λ (z : Under). WholeFits sizes.version z.listed z.whole) (sym same) at.fits;
         begun = ap (λ (z : Under). z.has_begun) same ∙ at.begun;
       }
     where
@@ -80,12 +82,13 @@ other_call h j old new sets ne = ap (λ (z : List (Option Running)). get_or z j 
 -- ---- the book
 
 -- it knows of a hart's call its place in the trace
-pub stands_still : (w : Under) (x : Option Heard) (o : Option Under) → HeardBy (Some w) x o → (s : HartStanding) → StandsAs (Some w) s → StandsAs o s
-stands_still w None o heard Free st = absurd st
-stands_still w None o heard (Busy id c told) st = subst (λ (z : Option Under). StandsAs z (Busy id c told)) (sym heard) st
-stands_still w (Some x) None heard s st = tt
-stands_still w (Some x) (Some v) heard Free st = absurd st
-stands_still w (Some x) (Some v) heard (Busy id c told) st = heard.same.0 ∙ st
+pub stands_still : (version : Version) (w : Under) (x : Option Heard) (o : Option Under) → HeardBy version (Some w) x o → (s : HartStanding) → StandsAs (Some w) s
+    → StandsAs o s
+stands_still version w None o heard Free st = absurd st
+stands_still version w None o heard (Busy id c told) st = subst (λ (z : Option Under). StandsAs z (Busy id c told)) (sym heard) st
+stands_still version w (Some x) None heard s st = tt
+stands_still version w (Some x) (Some v) heard Free st = absurd st
+stands_still version w (Some x) (Some v) heard (Busy id c told) st = heard.same.0 ∙ st
 
 pub book_put : (k : KeptTree) (b : History) (h : ℕ) (w : Under) (o : Option Under) → hart_in k h ≡ Some w → ((s : HartStanding) → StandsAs (Some w) s → StandsAs o s)
     → IsBook k b → IsBook (with_hart k h o) b

@@ -9,7 +9,7 @@ use Rattle.hart_core.specs.Events.{event_of, said_of}
 use Rattle.hart_core.specs.Harts.{HartsOf, shared_of}
 use Rattle.hart_core.specs.declared.events.Came.{Came}
 use Rattle.hart_core.specs.declared.events.Event.{Event as HartEvent}
-use Rattle.inode_machine.specs.VersionOne.{kept, kept_on}
+use Rattle.inode_machine.specs.Kept.{kept, kept_on}
 use Rattle.plain_tree.specs.declared.call.Call.{Call}
 use Rattle.run_laws.specs.UnderWay.{StepsPlaceInTime, UnderWay}
 use Rattle.run_laws.specs.Vocabulary.{Outside}
@@ -34,15 +34,16 @@ module _ {D : Type 0} (contents : D → List (List ℕ)) (failures : D → ℕ) 
   -- So what is kept agrees with the theory after the run.
   pub run_agrees : StepsPlaceInTime → (es : List HartEvent) (cs : List Came) (n : ℕ) (s : State (block_calls sizes)) (b : History) (old new : HartsOf D) (k k' : KeptTree)
       (r : KeepsRun contents failures sizes old k es cs new k') → AgreesAt n s b old k → AllKnown sizes under n (history_in contents failures sizes es cs old new k k' r) s → n + length es < 2 ^ 64
-      → (m : ℕ) × AgreesAt m (run (block_calls sizes) (history_in contents failures sizes es cs old new k k' r) s) (kept (block_moves sizes) (history_in contents failures sizes es cs old new k k' r) s b) new k'
+      → (m : ℕ) × AgreesAt m (run (block_calls sizes) (history_in contents failures sizes es cs old new k k' r) s) (kept sizes.version (block_moves sizes) (history_in contents failures sizes es cs old new k k' r) s b) new k'
   run_agrees in_time [] [] n s b old new k k' r at known few = (n, subst (λ (z : HartsOf D). AgreesAt n s b z k') (sym r.0) (subst (λ (z : KeptTree). AgreesAt n s b old z) (sym r.1) at))
   run_agrees in_time [] (c ∷ cs) n s b old new k k' r at known few = absurd r
   run_agrees in_time (e ∷ es) [] n s b old new k k' r at known few = absurd r
   run_agrees in_time (e ∷ es) (c ∷ cs) n s b old new k k' r at known few =
       let f : Event Call Outside = with_answer (event_of e) (said_of c (shared_of contents failures r.0)) in
       let calls : k.calls < 2 ^ 64 - 1 = few_calls n s b old k at (omega (arith, few)) in
-      let there : AgreesAt (suc n) (next (block_calls sizes) f s) (kept_on (block_moves sizes) f s b) r.0 r.1 = record {
+      let there : AgreesAt (suc n) (next (block_calls sizes) f s) (kept_on sizes.version (block_moves sizes) f s b) r.0 r.1 = record {
         agrees = event_agrees contents failures sizes in_time s (under n) (under (suc n)) b old r.0 k r.1 at.agrees calls e c r.2 known.0;
         counted = counted_on sizes n (omega (arith, few)) b at.counted f s;
       } in
-      run_agrees in_time es cs (suc n) (next (block_calls sizes) f s) (kept_on (block_moves sizes) f s b) r.0 new r.1 k' r.3 there known.1 (omega (arith, few))
+      run_agrees in_time es cs (suc n) (next (block_calls sizes) f s) (kept_on sizes.version (block_moves sizes) f s b) r.0 new r.1 k' r.3 there known.1
+      (omega (arith, few))

@@ -25,6 +25,7 @@ use Rattle.whole_calls.specs.declared.reading.Read.TheVariants as reading
 use Rattle.whole_calls.specs.declared.whole.Whole.{Whole}
 use Rattle.whole_calls.specs.declared.whole.Whole.TheVariants as whole
 use Rattle.kept_histories.proofs.Controls.{Answers, goes_same, same_end}
+use Rattle.image_versions.specs.declared.version.Version.{Version}
 
 -- the bytes that were read, of a text that was handed over
 abbrev pub front : Message → List ℕ
@@ -99,32 +100,32 @@ module _ (sizes : Super) where
 
 -- ---- a part that begins
 
-pub with_own_text : (ns : List ℕ) (w : Whole) → whole_with ns w (text_in w) ≡ whole_of ns w
-with_own_text ns (whole.Open path flags c) = refl
-with_own_text ns (whole.Read fd buf reading.Lock) = refl
-with_own_text ns (whole.Read fd buf (reading.Part n offset)) = refl
-with_own_text ns (whole.Read fd buf (reading.Says count)) = refl
-with_own_text ns (whole.Write fd bytes c) = refl
-with_own_text ns (whole.Link old new c) = refl
-with_own_text ns (whole.Unlink path c) = refl
-with_own_text ns (whole.Mkdir path c) = refl
-with_own_text ns (whole.Chdir path c) = refl
-with_own_text ns (whole.Dup fd c) = refl
-with_own_text ns (whole.Fstat fd c) = refl
-with_own_text ns (whole.Close fd c) = refl
-with_own_text ns (whole.Inherit child c) = refl
+pub with_own_text : (version : Version) (ns : List ℕ) (w : Whole) → whole_with version ns w (text_in w) ≡ whole_of version ns w
+with_own_text version ns (whole.Open path flags c) = refl
+with_own_text version ns (whole.Read fd buf reading.Lock) = refl
+with_own_text version ns (whole.Read fd buf (reading.Part n offset)) = refl
+with_own_text version ns (whole.Read fd buf (reading.Says count)) = refl
+with_own_text version ns (whole.Write fd bytes c) = refl
+with_own_text version ns (whole.Link old new c) = refl
+with_own_text version ns (whole.Unlink path c) = refl
+with_own_text version ns (whole.Mkdir path c) = refl
+with_own_text version ns (whole.Chdir path c) = refl
+with_own_text version ns (whole.Dup fd c) = refl
+with_own_text version ns (whole.Fstat fd c) = refl
+with_own_text version ns (whole.Close fd c) = refl
+with_own_text version ns (whole.Inherit child c) = refl
 
-pub text_fits : (ns : List ℕ) (w : Whole) (q : Part) → (IsReading w → FillsFrom (text_in w) q) → TextFits (whole_with ns w) (text_in w) q
-text_fits ns (whole.Open path flags c) q fills = inr (λ t. refl)
-text_fits ns (whole.Read fd buf reading.Lock) q fills = inr (λ t. refl)
-text_fits ns (whole.Read fd buf (reading.Part n offset)) q fills = inl (fd, n, offset, (λ t. refl), fills_so buf.items q (fills tt))
-text_fits ns (whole.Read fd buf (reading.Says count)) q fills = inr (λ t. refl)
-text_fits ns (whole.Write fd bytes c) q fills = inr (λ t. refl)
-text_fits ns (whole.Link old new c) q fills = inr (λ t. refl)
-text_fits ns (whole.Unlink path c) q fills = inr (λ t. refl)
-text_fits ns (whole.Mkdir path c) q fills = inr (λ t. refl)
-text_fits ns (whole.Chdir path c) q fills = inr (λ t. refl)
-text_fits ns (whole.Dup fd c) q fills = inr (λ t. refl)
-text_fits ns (whole.Fstat fd c) q fills = inr (λ t. refl)
-text_fits ns (whole.Close fd c) q fills = inr (λ t. refl)
-text_fits ns (whole.Inherit child c) q fills = inr (λ t. refl)
+pub text_fits : (version : Version) (ns : List ℕ) (w : Whole) (q : Part) → (IsReading w → FillsFrom (text_in w) q) → TextFits (whole_with version ns w) (text_in w) q
+text_fits version ns (whole.Open path flags c) q fills = inr (λ t. refl)
+text_fits version ns (whole.Read fd buf reading.Lock) q fills = inr (λ t. refl)
+text_fits version ns (whole.Read fd buf (reading.Part n offset)) q fills = inl (fd, n, offset, (λ t. refl), fills_so buf.items q (fills tt))
+text_fits version ns (whole.Read fd buf (reading.Says count)) q fills = inr (λ t. refl)
+text_fits version ns (whole.Write fd bytes c) q fills = inr (λ t. refl)
+text_fits version ns (whole.Link old new c) q fills = inr (λ t. refl)
+text_fits version ns (whole.Unlink path c) q fills = inr (λ t. refl)
+text_fits version ns (whole.Mkdir path c) q fills = inr (λ t. refl)
+text_fits version ns (whole.Chdir path c) q fills = inr (λ t. refl)
+text_fits version ns (whole.Dup fd c) q fills = inr (λ t. refl)
+text_fits version ns (whole.Fstat fd c) q fills = inr (λ t. refl)
+text_fits version ns (whole.Close fd c) q fills = inr (λ t. refl)
+text_fits version ns (whole.Inherit child c) q fills = inr (λ t. refl)

@@ -1,11 +1,10 @@
 -- Each call's program takes so: what its program asks for names inodes that are in hand.
 use Rattle.std.specs.Prelude.{◌≡◌, ◌≤◌, ℕ, ◌+◌, ◌==◌, Bool, true, false, List, [], ◌∷◌, Option, Some, None}
-use Rattle.image_versions.specs.declared.version.Version.TheVariants.{One}
 use Rattle.calls_on_blocks.proofs.Vocabulary.{ap, subst, inl, inr, arith}
 use Rattle.atomic_programs.specs.Prog.{Ret, Do}
 use Rattle.inode_machine.specs.Inodes.{Query, AtNothing, AtName, AtEntries}
 use Rattle.inode_machine.specs.Parts.{P}
-use Rattle.inode_machine.specs.VersionOne.{program}
+use Rattle.inode_machine.specs.Programs.{program}
 use Rattle.inode_machine.specs.World.{Op, Answer, Mark}
 use Rattle.inode_machine.specs.World.Op.{Take, UnlockInode, UpStart, Up, WalkDown, Store, StatFile, LockFile, LockOpen, Join}
 use Rattle.plain_tree.specs.declared.answer.Reply.{Reply}
@@ -15,6 +14,7 @@ use Rattle.call_programs.specs.Asks as asks
 use Rattle.call_programs.specs.Asks.{Before, DropsFrom, Follows, Held, InHand, IsIn, May, fresh, holding, without}
 use Rattle.call_programs.proofs.Calls.{calls_ask}
 use Rattle.kept_histories.proofs.Hands.{AsksSo, DropsInHand, Hands, IsFollowed, TakesInHand, TakesSo, after, down, one, started, still, up}
+use Rattle.image_versions.specs.declared.version.Version.{Version}
 
 -- ---- a list of what is in hand
 
@@ -96,8 +96,9 @@ drops n h None is at = tt
 drops n None (Some g) is at = absurd is
 drops n (Some x) (Some g) is at = let low = in_counts n x.has at in let more = is.0 n in omega (arith, low, more)
 
-module _ (call : Call) where
-  asks_so : (s : Before) (g : Option Hands) → Shows s.held g → (op : Op) (m : Answer op → Option Mark) (k : Answer op → P Reply) → May One call s op m k → AsksSo g op m
+module _ (version : Version) (call : Call) where
+  asks_so : (s : Before) (g : Option Hands) → Shows s.held g → (op : Op) (m : Answer op → Option Mark) (k : Answer op → P Reply) → May version call s op m k
+      → AsksSo g op m
   asks_so s g is (Take n looking) m k (inl alike) = inl alike
   asks_so s g is (Take n looking) m k (inr at) = inr (takes_in n looking s.held g is at)
   asks_so s g is (Up n) m k may = may
@@ -107,8 +108,8 @@ module _ (call : Call) where
   asks_so s g is (LockFile fd) m k may = (follows s.held g is may.0, may.1)
   asks_so s g is op m k may = tt
 
-  goes_on : (s : Before) (g : Option Hands) → Shows s.held g → (op : Op) (m : Answer op → Option Mark) (k : Answer op → P Reply) (may : asks.Asks One call s op m k) (a : Answer op)
-      → Shows (asks.after One call s op m k may a).held (after op a g)
+  goes_on : (s : Before) (g : Option Hands) → Shows s.held g → (op : Op) (m : Answer op → Option Mark) (k : Answer op → P Reply) (may : asks.Asks version call s op m k) (a : Answer op)
+      → Shows (asks.after version call s op m k may a).held (after op a g)
   unfolding Shows
   goes_on s g is (Take n looking) m k may a = shows_still s.held g is
   goes_on s g is (UnlockInode n) m k may a = shows_still s.held g is
@@ -119,10 +120,11 @@ module _ (call : Call) where
   goes_on s g is Join m k may a = shows_still s.held g is
   goes_on s g is op m k may a = tt
 
-  takes : (s : Before) (g : Option Hands) → Shows s.held g → (p : P Reply) → asks.AsksSo One call s p → TakesSo g p
+  takes : (s : Before) (g : Option Hands) → Shows s.held g → (p : P Reply) → asks.AsksSo version call s p → TakesSo g p
   takes s g is (Ret r) so = tt
-  takes s g is (Do op m k) so = (asks_so s g is op m k so.0.1, λ a. takes (asks.after One call s op m k so.0 a) (after op a g) (goes_on s g is op m k so.0 a) (k a) (so.1 a))
+  takes s g is (Do op m k) so = (asks_so s g is op m k so.0.1, λ a. takes (asks.after version call s op m k so.0 a) (after op a g) (goes_on s g is op m k so.0 a) (k a) (so.1 a))
 
-pub takes_so : (g : Hands) (call : Call) → TakesSo (Some g) (program call)
+pub takes_so : (version : Version) (g : Hands) (call : Call) → TakesSo (Some g) (program version call)
 unfolding Shows count
-takes_so g call = takes call (holding [] fresh []) (Some g) (λ n. omega arith, λ n e. none_last n g.last e) (program call) (calls_ask One call)
+takes_so version g call =
+    takes version call (holding [] fresh []) (Some g) (λ n. omega arith, λ n e. none_last n g.last e) (program version call) (calls_ask version call)

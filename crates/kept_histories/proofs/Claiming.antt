@@ -24,11 +24,11 @@ use Rattle.fs_machine.specs.Steps as steps
 use Rattle.fs_machine.specs.Tables.{TablesState, is_unused, place_of, references_in, references_at}
 use Rattle.fs_machine.specs.declared.entries.Entry.{Entry}
 use Rattle.inode_machine.specs.Exec.{claimed, place_count, referenced}
-use Rattle.inode_machine.specs.VersionOne.{marked, with_mark}
+use Rattle.inode_machine.specs.Marks.{marked, with_mark}
 use Rattle.inode_machine.specs.Parts as programs
-use Rattle.inode_machine.specs.VersionOne.{program}
+use Rattle.inode_machine.specs.Programs.{program}
 use Rattle.inode_machine.specs.Rooms.{says_no_room}
-use Rattle.inode_machine.specs.VersionOne.{machine}
+use Rattle.inode_machine.specs.Rules.{machine}
 use Rattle.inode_machine.specs.World as above
 use Rattle.inode_machine.specs.World.Mark.{Fills, Frees, Makes, Mends, Orphans, Spoils}
 use Rattle.inode_machine.specs.World.Op.{Claim}
@@ -58,6 +58,7 @@ use Rattle.run_laws.specs.Vocabulary.{Outside, or_else}
 use Rattle.kept_histories.proofs.HandRuns.{sound_here}
 use Rattle.kept_histories.proofs.Heads.{MakesNone}
 use Rattle.kept_histories.proofs.Basics.{longer, none_some, not_both}
+use Rattle.image_versions.specs.declared.version.Version.{Version}
 
 -- ---- what is left
 
@@ -130,11 +131,12 @@ module _ (t : TablesState) (w : above.World) (shows : tables.Shows t w (tables.l
           absurd cc
 
 -- the outcome of a step in all that harts share
-ran_state : (h : ℕ) (op : steps.Op) (m : steps.Answer op → Option Acts) (w : W) (d : ExecResult (steps.Answer op) steps.State) (b : steps.Answer op) (u : W)
-    → both machine h m w.seen (exec_result_in (λ v. record (w.real) { blocks = v }) (came_to h op w.real.blocks d)) ≡ Ran b u → d ≡ Ran b u.real.blocks.state
-ran_state h op m w Waits b u e = absurd (never_ran b u e)
-ran_state h op m w (Stops t) b u e = (let q : Stops _ ≡ Ran b u = e in cc)
-ran_state h op m w (Ran a t) b u e = λ i. Ran (answer_or b (e i)) ((ran_to u (e i)).real.blocks.state)
+ran_state : (version : Version) (h : ℕ) (op : steps.Op) (m : steps.Answer op → Option Acts) (w : W) (d : ExecResult (steps.Answer op) steps.State) (b : steps.Answer op)
+    (u : W)
+    → both (machine version) h m w.seen (exec_result_in (λ v. record (w.real) { blocks = v }) (came_to h op w.real.blocks d)) ≡ Ran b u → d ≡ Ran b u.real.blocks.state
+ran_state version h op m w Waits b u e = absurd (never_ran b u e)
+ran_state version h op m w (Stops t) b u e = (let q : Stops _ ≡ Ran b u = e in cc)
+ran_state version h op m w (Ran a t) b u e = λ i. Ran (answer_or b (e i)) ((ran_to u (e i)).real.blocks.state)
 
 -- ---- a claim's program
 
@@ -148,7 +150,7 @@ unfolding steps.exec
 finds_place sizes b ns mark i = λ h x w u ran shows.
     let s : steps.State = w.real.blocks.state in
     claimed_place s.tables w.seen shows.tables h b s u.real.blocks.state ns i refl (first_free s.tables.entries ns) refl
-    (ran_state h (steps.Claim b ns) mark w (steps.claim_first h b s (first_free s.tables.entries ns)) (steps.Claims i) u ran)
+    (ran_state sizes.version h (steps.Claim b ns) mark w (steps.claim_first h b s (first_free s.tables.entries ns)) (steps.Claims i) u ran)
 
 -- What one of its steps does above: nothing; or an inode is taken, for which there is a place; or there is no place,
 -- or no inode. Only if there is no place it gives back then.
@@ -228,34 +230,34 @@ begins_on sizes c op m g = g
 -- ---- a step of it
 
 -- a mark that says that there was no room leaves the world so
-spoilt : (h : ℕ) (k : Option above.Mark) (w : above.World) → spoils k ≡ true → (marked h k w).clean ≡ false
-spoilt h None w e = absurd (let q : false ≡ true = e in cc)
-spoilt h (Some (Makes v)) w e = absurd (let q : false ≡ true = e in cc)
-spoilt h (Some (Frees n)) w e = absurd (let q : false ≡ true = e in cc)
-spoilt h (Some (Orphans n)) w e = absurd (let q : false ≡ true = e in cc)
-spoilt h (Some Fills) w e = refl
-spoilt h (Some Mends) w e = refl
-spoilt h (Some (Spoils s)) w e = refl
+spoilt : (version : Version) (h : ℕ) (k : Option above.Mark) (w : above.World) → spoils k ≡ true → (marked version h k w).clean ≡ false
+spoilt version h None w e = absurd (let q : false ≡ true = e in cc)
+spoilt version h (Some (Makes v)) w e = absurd (let q : false ≡ true = e in cc)
+spoilt version h (Some (Frees n)) w e = absurd (let q : false ≡ true = e in cc)
+spoilt version h (Some (Orphans n)) w e = absurd (let q : false ≡ true = e in cc)
+spoilt version h (Some Fills) w e = refl
+spoilt version h (Some Mends) w e = refl
+spoilt version h (Some (Spoils s)) w e = refl
 
 -- another one that makes no move leaves it as it was
-unspoilt : (h : ℕ) (k : Option above.Mark) (w : above.World) → MakesNone k → spoils k ≡ false → (marked h k w).clean ≡ w.clean
-unspoilt h None w none e = refl
-unspoilt h (Some (Makes v)) w none e = absurd none
-unspoilt h (Some (Frees n)) w none e = refl
-unspoilt h (Some (Orphans n)) w none e = refl
-unspoilt h (Some Fills) w none e = absurd (let q : true ≡ false = e in cc)
-unspoilt h (Some Mends) w none e = absurd (let q : true ≡ false = e in cc)
-unspoilt h (Some (Spoils s)) w none e = absurd (let q : true ≡ false = e in cc)
+unspoilt : (version : Version) (h : ℕ) (k : Option above.Mark) (w : above.World) → MakesNone k → spoils k ≡ false → (marked version h k w).clean ≡ w.clean
+unspoilt version h None w none e = refl
+unspoilt version h (Some (Makes v)) w none e = absurd none
+unspoilt version h (Some (Frees n)) w none e = refl
+unspoilt version h (Some (Orphans n)) w none e = refl
+unspoilt version h (Some Fills) w none e = absurd (let q : true ≡ false = e in cc)
+unspoilt version h (Some Mends) w none e = absurd (let q : true ≡ false = e in cc)
+unspoilt version h (Some (Spoils s)) w none e = absurd (let q : true ≡ false = e in cc)
 
 module _ (sizes : Super) (h : ℕ) (x : Outside) (w u : W) (op : steps.Op) (mark : steps.Answer op → Option Acts) (b : steps.Answer op) (ran : (block_calls sizes).M.go h x op mark w ≡ Ran b u) where
-  sees : (k : Option Acts) → mark b ≡ k → u.seen ≡ seen_after machine h k w.seen
-  sees k is = seen_is h mark w.seen (exec h x op w.real) b u ran ∙ ap (λ (z : Option Acts). seen_after machine h z w.seen) is
+  sees : (k : Option Acts) → mark b ≡ k → u.seen ≡ seen_after (machine sizes.version) h k w.seen
+  sees k is = seen_is sizes.version h mark w.seen (exec h x op w.real) b u ran ∙ ap (λ (z : Option Acts). seen_after (machine sizes.version) h z w.seen) is
 
   module _ (inode_type : InodeType) (m : above.ClaimResult → Option above.Mark) (left : P (Handover above.ClaimResult Carry)) where
-    took : (i : ℕ) → mark b ≡ acts (Claim inode_type) (above.Picks i) m → nat_lt (referenced w.seen) place_count ≡ true → u.seen ≡ marked h (m (above.New i)) (claimed h inode_type w.seen i)
+    took : (i : ℕ) → mark b ≡ acts (Claim inode_type) (above.Picks i) m → nat_lt (referenced w.seen) place_count ≡ true → u.seen ≡ marked sizes.version h (m (above.New i)) (claimed h inode_type w.seen i)
     took i is room =
         sees (acts (Claim inode_type) (above.Picks i) m) is
-        ∙ ap (λ (e : Bool). ran_to w.seen (with_mark h m (if e then Ran (above.New i) (claimed h inode_type w.seen i) else Ran above.NoPlace w.seen))) room
+        ∙ ap (λ (e : Bool). ran_to w.seen (with_mark sizes.version h m (if e then Ran (above.New i) (claimed h inode_type w.seen i) else Ran above.NoPlace w.seen))) room
 
     -- if it finds no room, it ends, or gives back next
     turn_short : ((a : above.ClaimResult) → MakesNone (m a)) → ((a : above.ClaimResult) → spoils (m a) ≡ says_no_room (Claim inode_type) a) → Shows w.real.blocks w.seen
@@ -265,7 +267,7 @@ module _ (sizes : Super) (h : ℕ) (x : Outside) (w u : W) (op : steps.Op) (mark
     turn_short none tells shows clean short (Takes i is place on) =
         not_both u.seen.clean
         (ap (λ (z : above.World). z.clean) (took i is (place h x w u ran shows))
-        ∙ unspoilt h (m (above.New i)) (claimed h inode_type w.seen i) (none (above.New i)) (tells (above.New i)) ∙ clean) short
+        ∙ unspoilt sizes.version h (m (above.New i)) (claimed h inode_type w.seen i) (none (above.New i)) (tells (above.New i)) ∙ clean) short
     turn_short none tells shows clean short (FindsNoPlace is gives) = inr gives
     turn_short none tells shows clean short (FindsNone is c ends) = inl (record { answer = above.NoInode; carry = c }, ends, tells above.NoInode)
 
@@ -273,7 +275,7 @@ module _ (sizes : Super) (h : ℕ) (x : Outside) (w u : W) (op : steps.Op) (mark
     turn_gives : spoils (m above.NoPlace) ≡ true → Turn sizes inode_type m op mark b left → GivesBack left → u.seen.clean ≡ false
     turn_gives tells (Quiet is on) gives = absurd (on gives)
     turn_gives tells (Takes i is place on) gives = absurd (on gives)
-    turn_gives tells (FindsNoPlace is back) gives = ap (λ (z : above.World). z.clean) (sees (acts (Claim inode_type) (above.RoomFor 0) m) is) ∙ spoilt h (m above.NoPlace) w.seen tells
+    turn_gives tells (FindsNoPlace is back) gives = ap (λ (z : above.World). z.clean) (sees (acts (Claim inode_type) (above.RoomFor 0) m) is) ∙ spoilt sizes.version h (m above.NoPlace) w.seen tells
     turn_gives tells (FindsNone is c ends) gives = absurd (ends_on _ (subst GivesBack ends gives))
 
   -- of whichever operation: a claim alone acts in one of its steps, and gives back
@@ -329,29 +331,30 @@ none_each Is under none h u e = none_some u (sym (none h) ∙ e)
 -- ---- marks
 
 -- the rest of the call from this operation on fits
-pub record FitsOn (u : UnderWay) : Type 0 where
+pub record FitsOn (version : Version) (u : UnderWay) : Type 0 where
   pub most : ℕ
-  pub fits : AllFitUpTo most (Do u.op u.mark u.rest)
+  pub fits : AllFitUpTo version most (Do u.op u.mark u.rest)
 
 -- so its mark says that there was no room when its answer says so
-pub says_so : (u : UnderWay) → FitsOn u → (a : above.Answer u.op) → spoils (u.mark a) ≡ says_no_room u.op a
-says_so u f = f.fits.1
+pub says_so : (version : Version) (u : UnderWay) → FitsOn version u → (a : above.Answer u.op) → spoils (u.mark a) ≡ says_no_room u.op a
+says_so version u f = f.fits.1
 
-abbrev pub AllSpoil : (ℕ → Option UnderWay) → Type 0
-AllSpoil under = (h : ℕ) (u : UnderWay) → under h ≡ Some u → FitsOn u
+abbrev pub AllSpoil : Version → (ℕ → Option UnderWay) → Type 0
+AllSpoil version under = (h : ℕ) (u : UnderWay) → under h ≡ Some u → FitsOn version u
 
 -- it is so if no call is under way
-pub none_spoil : (under : ℕ → Option UnderWay) → ((h : ℕ) → under h ≡ None) → AllSpoil under
-none_spoil under none = none_each FitsOn under none
+pub none_spoil : (version : Version) (under : ℕ → Option UnderWay) → ((h : ℕ) → under h ≡ None) → AllSpoil version under
+none_spoil version under none = none_each (FitsOn version) under none
 
-begun_fits : (sizes : Super) (most : ℕ) (c : Carry) (p : programs.P Reply) → AllFitUpTo most p → (u : UnderWay) → at_beginning sizes c p ≡ Some u → FitsOn u
+begun_fits : (sizes : Super) (most : ℕ) (c : Carry) (p : programs.P Reply) → AllFitUpTo sizes.version most p → (u : UnderWay) → at_beginning sizes c p ≡ Some u
+    → FitsOn sizes.version u
 begun_fits sizes most c (Ret r) f u e = none_some u e
-begun_fits sizes most c (Do op m k) f u e = subst FitsOn (Some-inj _ u e) (record { most = most; fits = f })
+begun_fits sizes most c (Do op m k) f u e = subst (FitsOn sizes.version) (Some-inj _ u e) (record { most = most; fits = f })
 
 gone_fits : (sizes : Super) (u : UnderWay) (acted : Option (above.Answer u.op)) (step : AnsweredStep) (left : P (Handover (above.Answer u.op) Carry)) (v : UnderWay)
-    → FitsOn u → gone_on sizes u acted step left ≡ Some v → FitsOn v
+    → FitsOn sizes.version u → gone_on sizes u acted step left ≡ Some v → FitsOn sizes.version v
 gone_fits sizes u acted step (Ret z) v f e = begun_fits sizes f.most z.carry (u.rest z.answer) (f.fits.2 z.answer) v e
-gone_fits sizes u acted step (Do op m k) v f e = subst FitsOn (Some-inj _ v e) (record { most = f.most; fits = f.fits })
+gone_fits sizes u acted step (Do op m k) v f e = subst (FitsOn sizes.version) (Some-inj _ v e) (record { most = f.most; fits = f.fits })
 
 module _ (sizes : Super) (s : State (block_calls sizes)) (was now : ℕ → Option UnderWay) where
   abbrev L : Theory
@@ -361,32 +364,33 @@ module _ (sizes : Super) (s : State (block_calls sizes)) (was now : ℕ → Opti
   begun_serves : (h : ℕ) (call : Call) (u : W) → (block_calls sizes).start h call (busy_in (block_calls sizes) s) s.world ≡ Begins u → serves call ≡ true
   begun_serves h call u is =
       let t : World = record (s.world.real) { children = put s.world.real.children h (child_of call) } in
-      let b = begun_both (began_to s.world.seen (served_calls.start h call (busy_in L s) s.world.seen)) (begins sizes h call (busy_in L s) s.world.real) u is in
+      let b = begun_both (began_to s.world.seen ((served_calls sizes.version).start h call (busy_in L s) s.world.seen))
+      (begins sizes h call (busy_in L s) s.world.real) u is in
       (begun_here h call (busy_in L s) (shared_of s.world.real) t u.real b.0).serves_it
 
   begun_spoils : (h : ℕ) (call : Call) (d : Began (block_calls sizes).Refusal W) → (block_calls sizes).start h call (busy_in (block_calls sizes) s) s.world ≡ d
-      → StartDoes sizes h call (begun (block_calls sizes) h call s d).came was now → AllSpoil was → AllSpoil now
-  begun_spoils h call (Refuses why) is does all = subst AllSpoil (sym does) all
+      → StartDoes sizes h call (begun (block_calls sizes) h call s d).came was now → AllSpoil sizes.version was → AllSpoil sizes.version now
+  begun_spoils h call (Refuses why) is does all = subst (AllSpoil sizes.version) (sym does) all
   begun_spoils h call (Begins u) is does all =
-      changed_each FitsOn was now h (at_beginning sizes nothing (program call)) does
-      (λ v. begun_fits sizes (most_written call) nothing (program call) (call_fits call (served_is call (begun_serves h call u is))) v) all
+      changed_each (FitsOn sizes.version) was now h (at_beginning sizes nothing (program sizes.version call)) does
+      (λ v. begun_fits sizes (most_written call) nothing (program sizes.version call) (call_fits sizes.version call (served_is call (begun_serves h call u is))) v) all
 
-  start_spoils : (h : ℕ) (call : Call) (o : Option (Run (block_calls sizes))) → StartDoes sizes h call (start_run (block_calls sizes) h call s o).came was now → AllSpoil was → AllSpoil now
-  start_spoils h call (Some r) does all = subst AllSpoil (sym does) all
+  start_spoils : (h : ℕ) (call : Call) (o : Option (Run (block_calls sizes))) → StartDoes sizes h call (start_run (block_calls sizes) h call s o).came was now → AllSpoil sizes.version was → AllSpoil sizes.version now
+  start_spoils h call (Some r) does all = subst (AllSpoil sizes.version) (sym does) all
   start_spoils h call None does all = begun_spoils h call (L.start h call (busy_in L s) s.world) refl does all
 
-  step_spoils : (h : ℕ) (x : Outside) (made : Made (block_calls sizes)) → RunsAStep sizes h x s made was now → AllSpoil was → AllSpoil now
+  step_spoils : (h : ℕ) (x : Outside) (made : Made (block_calls sizes)) → RunsAStep sizes h x s made was now → AllSpoil sizes.version was → AllSpoil sizes.version now
   step_spoils h x made r all =
-      changed_each FitsOn was now h (gone_on sizes r.under (or_else r.acts r.under.acted) (r.op, r.answer) (r.rest r.answer)) r.goes_on
+      changed_each (FitsOn sizes.version) was now h (gone_on sizes r.under (or_else r.acts r.under.acted) (r.op, r.answer) (r.rest r.answer)) r.goes_on
       (λ v. gone_fits sizes r.under (or_else r.acts r.under.acted) (r.op, r.answer) (r.rest r.answer) v (all h r.under r.is)) all
 
-  stepped_spoils : (h : ℕ) (x : Outside) (made : Made (block_calls sizes)) (came : EventOutcome (block_calls sizes)) → StepDoes sizes h x s made came was now → AllSpoil was → AllSpoil now
+  stepped_spoils : (h : ℕ) (x : Outside) (made : Made (block_calls sizes)) (came : EventOutcome (block_calls sizes)) → StepDoes sizes h x s made came was now → AllSpoil sizes.version was → AllSpoil sizes.version now
   stepped_spoils h x made (DidRun did) does all = step_spoils h x made does all
   stepped_spoils h x made (DidEnd reply) does all = step_spoils h x made does all
-  stepped_spoils h x made came does all = subst AllSpoil (sym does.0) all
+  stepped_spoils h x made came does all = subst (AllSpoil sizes.version) (sym does.0) all
 
   -- .. and so after each event
-  pub event_spoils : (f : Event Call Outside) → EventDoes sizes f s (makes (block_calls sizes) f s) was now → AllSpoil was → AllSpoil now
+  pub event_spoils : (f : Event Call Outside) → EventDoes sizes f s (makes (block_calls sizes) f s) was now → AllSpoil sizes.version was → AllSpoil sizes.version now
   event_spoils (Start h call) does all = start_spoils h call (s.running h) does all
   event_spoils (Step h x) does all = stepped_spoils h x (makes L (Step h x) s) (makes L (Step h x) s).came does all
 
@@ -417,7 +421,7 @@ leads_there sizes None u fits = absurd fits
 leads_there sizes (Some r) u fits = fits.leads
 
 module _ (sizes : Super) (s : State (block_calls sizes)) (made : Made (block_calls sizes)) (was now : ℕ → Option UnderWay) (fits : (h : ℕ) → Fits sizes (s.running h) (was h))
-    (clean : made.after.world.seen.clean ≡ true) (spoil : AllSpoil was) where
+    (clean : made.after.world.seen.clean ≡ true) (spoil : AllSpoil sizes.version was) where
   step_gives : (h : ℕ) (x : Outside) → RunsAStep sizes h x s made was now → NoneGivesBack was → NoneGivesBack now
   step_gives h x r all =
       changed_each KeepsOn was now h (gone_on sizes r.under (or_else r.acts r.under.acted) (r.op, r.answer) (r.rest r.answer)) r.goes_on
@@ -427,7 +431,7 @@ module _ (sizes : Super) (s : State (block_calls sizes)) (made : Made (block_cal
       lead = leads_there sizes (s.running h) r.under (subst (Fits sizes (s.running h)) r.is (fits h))
 
       on : GivesBackOf r.under.op (r.rest r.answer) → ⊥
-      on gives = not_both made.after.world.seen.clean clean (gives_short sizes h x s made was now r lead (says_so r.under (spoil h r.under r.is)) gives)
+      on gives = not_both made.after.world.seen.clean clean (gives_short sizes h x s made was now r lead (says_so sizes.version r.under (spoil h r.under r.is)) gives)
 
   stepped_gives : (h : ℕ) (x : Outside) (came : EventOutcome (block_calls sizes)) → StepDoes sizes h x s made came was now → NoneGivesBack was → NoneGivesBack now
   stepped_gives h x (DidRun did) does all = step_gives h x does all
@@ -447,11 +451,11 @@ module _ (sizes : Super) (s : State (block_calls sizes)) (made : Made (block_cal
 
 module _ (sizes : Super) (start : (block_calls sizes).M.World) (events : List (Event Call Outside)) (goes : GoesOnAsItActs sizes start events) where
   abbrev SpoilAfter : List (Event Call Outside) → Type 0
-  SpoilAfter es = AllSpoil (goes.under (length es))
+  SpoilAfter es = AllSpoil sizes.version (goes.under (length es))
 
   spoil_next : (es : List (Event Call Outside)) (e : Event Call Outside) (rest : List (Event Call Outside)) → es ++ e ∷ rest ≡ events → SpoilAfter es → SpoilAfter (es ++ e ∷ [])
   spoil_next es e rest is all =
-      subst (λ (n : ℕ). AllSpoil (goes.under n)) (sym (longer es e))
+      subst (λ (n : ℕ). AllSpoil sizes.version (goes.under n)) (sym (longer es e))
       (event_spoils sizes (run (block_calls sizes) es (fresh (block_calls sizes) start)) (goes.under (length es)) (goes.under (suc (length es))) e (goes.leads_on es e rest is) all)
 
   spoil_on : (done es rest : List (Event Call Outside)) → done ++ (es ++ rest) ≡ events → SpoilAfter done → SpoilAfter (done ++ es)
@@ -461,8 +465,8 @@ module _ (sizes : Super) (start : (block_calls sizes).M.World) (events : List (E
       (spoil_on (done ++ e ∷ []) es rest (append_assoc done (e ∷ []) (es ++ rest) ∙ is) (spoil_next done e (es ++ rest) is all))
 
   -- So the marks under way say at each place of a run what their answers say.
-  pub all_spoil : (es rest : List (Event Call Outside)) → es ++ rest ≡ events → AllSpoil (goes.under (length es))
-  all_spoil es rest is = spoil_on [] es rest is (none_spoil (goes.under 0) goes.none_yet)
+  pub all_spoil : (es rest : List (Event Call Outside)) → es ++ rest ≡ events → AllSpoil sizes.version (goes.under (length es))
+  all_spoil es rest is = spoil_on [] es rest is (none_spoil sizes.version (goes.under 0) goes.none_yet)
 
   -- And as long as the device hasn't failed the blocks show the world above there.
   pub shows_there : (block_calls sizes).M.Inv start → ((h : ℕ) → (block_calls sizes).M.Idle h start) → AllHonest (block_calls sizes) events (fresh (block_calls sizes) start)

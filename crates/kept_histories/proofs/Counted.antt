@@ -9,7 +9,7 @@ use Rattle.calls_on_blocks.specs.History.{block_moves}
 use Rattle.calls_on_blocks.specs.Theory.{block_calls}
 use Rattle.fs_layout.specs.declared.superblock.Super.{Super}
 use Rattle.inode_machine.specs.Kept.{kept_by, kept_start, kept_step, nothing_yet}
-use Rattle.inode_machine.specs.VersionOne.{kept_on}
+use Rattle.inode_machine.specs.Kept.{kept_on}
 use Rattle.plain_tree.specs.declared.answer.Reply.{Reply}
 use Rattle.plain_tree.specs.declared.call.Call.{Call}
 use Rattle.plain_tree.specs.declared.trace.Placed.{Placed}
@@ -114,5 +114,5 @@ module _ (sizes : Super) (n : ℕ) (few : n < 2 ^ 64) (b : History) (c : IsCount
   event_counted (Step h x) came m m' d = step_counted h came m m' d
 
   -- So it is after it.
-  pub counted_on : (f : Event Call Outside) (s : State (block_calls sizes)) → IsCounted (suc n) (kept_on (block_moves sizes) f s b)
+  pub counted_on : (f : Event Call Outside) (s : State (block_calls sizes)) → IsCounted (suc n) (kept_on sizes.version (block_moves sizes) f s b)
   counted_on f s = event_counted f _ _ _ _

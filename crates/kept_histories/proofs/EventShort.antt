@@ -24,7 +24,7 @@ use Rattle.hart_core.specs.declared.events.Event.TheVariants as event
 use Rattle.hart_core.specs.declared.outcome.Outcome.TheVariants as outcome
 use Rattle.hart_core.specs.declared.outcome.Stop.TheVariants as stop
 use Rattle.inode_machine.specs.Rooms.{says_no_room}
-use Rattle.inode_machine.specs.VersionOne.{machine}
+use Rattle.inode_machine.specs.Rules.{machine}
 use Rattle.inode_machine.specs.Exec.{is_nothing}
 use Rattle.inode_machine.specs.Theory.{Busy, NoSuchHart, NotEmptyHart, Refusal, begin_call, call_wrong, has_descriptor, only_if, serving_world, why_not}
 use Rattle.inode_machine.specs.Vocabulary.{MoveStep}
@@ -44,13 +44,14 @@ use Rattle.tree_histories.specs.Keeping.{KeptTree, hart_in}
 use Rattle.tree_histories.specs.Moving.{HasRun as KeptRuns}
 use Rattle.tree_laws.specs.History.{History}
 use Rattle.tree_laws.specs.Moves.{Stage}
+use Rattle.image_versions.specs.declared.version.Version.{Version}
 use Rattle.kept_histories.specs.Keeps.{KeepsEvent, Passes as JustPasses}
 use Rattle.kept_histories.proofs.Agreeing.{Agrees}
 use Rattle.kept_histories.proofs.Amid.{AreAmid, are_amid}
 use Rattle.kept_histories.proofs.EachEvent.{AllSee}
 use Rattle.kept_histories.proofs.EventSteps.{HasRun, IsQuiet, ended_is, made_so, ran_is, run_off}
 use Rattle.kept_histories.proofs.FirstShort.{first_short}
-use Rattle.kept_histories.proofs.Lasting.{SomeLacks}
+use Rattle.kept_histories.proofs.Lasting.{Lacks, SomeLacks}
 use Rattle.kept_histories.proofs.Claiming.{leads_there}
 
 -- ---- events that find room
@@ -84,7 +85,7 @@ module _ (sizes : Super) (s : State (block_calls sizes)) where
   call_clean h (calls.Fstat fd) busy w = refl
   call_clean h (calls.Close fd) busy w = refl
 
-  started_clean : (h : ℕ) (call : Call) (busy : ℕ → Bool) (w : above.World) → (began_to w (served_calls.start h call busy w)).clean ≡ w.clean
+  started_clean : (h : ℕ) (call : Call) (busy : ℕ → Bool) (w : above.World) → (began_to w ((served_calls sizes.version).start h call busy w)).clean ≡ w.clean
   started_clean h call busy w =
       ifs_clean w (nat_lt h hart_count) (is_nothing (w.desks h).lender) (serves call) NoSuchHart Busy (why_not (call_wrong call)) (begin_call h call busy w) (call_clean h call busy w)
 
@@ -95,16 +96,16 @@ module _ (sizes : Super) (s : State (block_calls sizes)) where
   start_clean : (h : ℕ) (call : Call) (o : Option (Run (block_calls sizes))) → IsAsClean (start_run (block_calls sizes) h call s o)
   start_clean h call (Some r) = refl
   start_clean h call None =
-      begun_clean h call (began_to s.world.seen (served_calls.start h call (busy_in (block_calls sizes) s) s.world.seen)) (begins sizes h call (busy_in (block_calls sizes) s) s.world.real)
+      begun_clean h call (began_to s.world.seen ((served_calls sizes.version).start h call (busy_in (block_calls sizes) s) s.world.seen)) (begins sizes h call (busy_in (block_calls sizes) s) s.world.real)
       (started_clean h call (busy_in (block_calls sizes) s) s.world.seen)
 
   -- a step that doesn't run
 
   tried_clean : (h : ℕ) (r : Run (block_calls sizes)) (op : steps.Op) (ps : steps.Answer op → List (ℕ × MoveStep)) (k : steps.Answer op → P Reply) (m : steps.Answer op → Option Acts)
-      (d : ExecResult (steps.Answer op) World) → IsQuiet (tried (block_calls sizes) h s r op ps k (both machine h m s.world.seen d)).came
-      → IsAsClean (tried (block_calls sizes) h s r op ps k (both machine h m s.world.seen d))
+      (d : ExecResult (steps.Answer op) World) → IsQuiet (tried (block_calls sizes) h s r op ps k (both (machine sizes.version) h m s.world.seen d)).came
+      → IsAsClean (tried (block_calls sizes) h s r op ps k (both (machine sizes.version) h m s.world.seen d))
   tried_clean h r op ps k m Waits quiet = refl
-  tried_clean h r op ps k m (Ran a w) quiet = absurd (by (k a) (record { real = w; seen = seen_after machine h (m a) s.world.seen }) quiet)
+  tried_clean h r op ps k m (Ran a w) quiet = absurd (by (k a) (record { real = w; seen = seen_after (machine sizes.version) h (m a) s.world.seen }) quiet)
     where
       by : (p : P Reply) (v : Both World above.World) → IsQuiet (moved (block_calls sizes) h s r (op, a) (ps a) p v).came → ⊥
       by (Ret reply) v q = q
@@ -153,7 +154,7 @@ some_passed w k k' p some = record {
   call = some.call;
   code = some.code;
   kept = ap (λ (z : KeptTree). hart_in z some.hart) p.kept ∙ some.kept;
-  lacks = some.lacks;
+  lacks = subst (λ (z : Version). Lacks z some.machine some.call) (sym (ap (λ (z : KeptTree). z.version) p.kept)) some.lacks;
 }
 
 -- ---- the event

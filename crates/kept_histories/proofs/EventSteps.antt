@@ -11,7 +11,7 @@ use Rattle.fs_layout.specs.declared.superblock.Super.{Super}
 use Rattle.hart_core.specs.Harts.{HartsOf}
 use Rattle.hart_core.specs.Worlds.{Makes, calls_of}
 use Rattle.inode_machine.specs.Kept.{kept_step}
-use Rattle.inode_machine.specs.VersionOne.{placed}
+use Rattle.inode_machine.specs.Kept.{placed}
 use Rattle.inode_machine.specs.MoveCalls.{MoveMachine}
 use Rattle.plain_tree.specs.declared.answer.Reply.{Reply}
 use Rattle.plain_tree.specs.declared.call.Call.{Call}
@@ -108,7 +108,7 @@ module _ (sizes : Super) where
   -- a step that didn't run is an event without a move, and shows nothing
   pub record Rests (h : ℕ) (x : Outside) (s : State (block_calls sizes)) (was now : ℕ → Option UnderWay) (o : EventOutcome (block_calls sizes)) : Type 0 where
     pub still : now ≡ was
-    pub places : placed (block_moves sizes) (Step h x) s ≡ []
+    pub places : placed sizes.version (block_moves sizes) (Step h x) s ≡ []
     pub shows : (n n' : Stage) (d : Option Deed) (b : History) → kept_step (block_moves sizes) h o n n' d b ≡ passes b
 
   pub rests : (h : ℕ) (x : Outside) (s : State (block_calls sizes)) (made : Made (block_calls sizes)) (was now : ℕ → Option UnderWay) (o : EventOutcome (block_calls sizes))

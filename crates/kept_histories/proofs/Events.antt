@@ -18,8 +18,8 @@ use Rattle.hart_core.specs.declared.events.Event.TheVariants as event
 use Rattle.hart_core.specs.declared.outcome.Outcome.TheVariants as outcome
 use Rattle.hart_core.specs.declared.outcome.Stop.TheVariants as stop
 use Rattle.inode_machine.specs.Kept.{kept_start, kept_step, told_of}
-use Rattle.inode_machine.specs.VersionOne.{kept_on, placed}
-use Rattle.inode_machine.specs.VersionOne.{MakesPlaced}
+use Rattle.inode_machine.specs.Kept.{kept_on, placed}
+use Rattle.inode_machine.specs.Making.{MakesPlaced}
 use Rattle.inode_machine.specs.MoveCalls.{MoveMachine}
 use Rattle.inode_machine.specs.Vocabulary.{MoveStep}
 use Rattle.plain_tree.specs.Tree.{tree_of}
@@ -50,7 +50,7 @@ module _ {D : Type 0} (contents : D → List (List ℕ)) (failures : D → ℕ) 
 
   -- so it is after the event
   abbrev pub AgreesAfter : Event Call Outside → Type 0
-  AgreesAfter f = Agrees contents failures sizes (next L f s) (kept_on N f s b) new k' now
+  AgreesAfter f = Agrees contents failures sizes (next L f s) (kept_on sizes.version N f s b) new k' now
 
   came_as : (f : Event Call Outside) (c : Came) → Makes contents failures sizes f old (came_of c) new → by_kind L (block_code sizes) (makes L f s).came ≡ came_of c
   came_as f c m = ap (λ (z : PlainMade L (block_code sizes)). z.came) (made_so sizes contents failures f s old new (came_of c) agree.code m)
@@ -60,7 +60,7 @@ module _ {D : Type 0} (contents : D → List (List ℕ)) (failures : D → ℕ) 
 
   -- the kept tree is the theory's, settled
   sees : (h : ℕ) (made : Made (block_calls sizes)) (r : RunsAStep sizes h Passes s made was now) → Known sizes (Step h Passes) s was now → HasRun (makes L (Step h Passes) s).came
-      → SeesAlike r.under (tree_of k.tree) s.world.seen (r.rest r.answer) (or_else r.acts r.under.acted)
+      → SeesAlike sizes.version r.under (tree_of k.tree) s.world.seen (r.rest r.answer) (or_else r.acts r.under.acted)
   sees h made r known ran = known.sees h made r (run_off sizes h Passes s (s.running h) ran) (tree_of k.tree) (ap (λ (m : Stage). m.tree) agree.stage)
 
   quiet_event : (h : ℕ) (x : Outside) (c : Came) → Makes contents failures sizes (Step h x) old (came_of c) new → IsQuiet (came_of c)
@@ -70,9 +70,9 @@ module _ {D : Type 0} (contents : D → List (List ℕ)) (failures : D → ℕ) 
       let r : Rests sizes h x s was now (makes L (Step h x) s).came =
       rests sizes h x s (makes L (Step h x) s) was now (makes L (Step h x) s).came (subst (λ z. IsQuiet z) (sym (came_as (Step h x) c m)) quiet) known.does in
       let same : N.tree (next L (Step h x) s).world ≡ N.tree s.world =
-      subst (λ (ps : List (ℕ × MoveStep)). MakesPlaced h (N.tree s.world) ps (N.tree (next L (Step h x) s).world)) r.places known.moves in
+      subst (λ (ps : List (ℕ × MoveStep)). MakesPlaced sizes.version h (N.tree s.world) ps (N.tree (next L (Step h x) s).world)) r.places known.moves in
       subst (λ (z : History). Agrees contents failures sizes (next L (Step h x) s) z new k' now)
-      (sym (r.shows (N.tree s.world) (N.tree (next L (Step h x) s).world) (told_of N (placed N (Step h x) s)) b))
+      (sym (r.shows (N.tree s.world) (N.tree (next L (Step h x) s).world) (told_of N (placed sizes.version N (Step h x) s)) b))
       (pass_agrees contents failures sizes h s (next L (Step h x) s) was now b old new k k' agree sets (after_as (Step h x) c m) same r.still stays p)
 
   start_event : (h : ℕ) (call : Call) (c : Came) (n : NotesEvent contents failures (λ a d x z. KeepsEvent a (event.Start h call) d x z) sizes (event.Start h call) old k c new k')
@@ -98,7 +98,7 @@ module _ {D : Type 0} (contents : D → List (List ℕ)) (failures : D → ℕ) 
       let c : Came = came.Stepped (outcome.Ran kind) in
       let is = ran_is sizes made.came kind (came_as (Step h Passes) c n.makes) in
       let r : RunsAStep sizes h Passes s made was now = subst (λ (z : EventOutcome L). StepDoes sizes h Passes s made z was now) is.1 known.does in
-      subst (λ (z : EventOutcome L). Agrees contents failures sizes made.after (kept_step N h z (N.tree s.world) (N.tree made.after.world) (told_of N (placed N (Step h Passes) s)) b) new k' now) (sym is.1)
+      subst (λ (z : EventOutcome L). Agrees contents failures sizes made.after (kept_step N h z (N.tree s.world) (N.tree made.after.world) (told_of N (placed sizes.version N (Step h Passes) s)) b) new k' now) (sym is.1)
       (ran_on contents failures sizes in_time h s made was now r b old new k agree None n.heard n.tells.place n.tells.others n.took.amid n.took.runs known.moves
       (after_as (Step h Passes) c n.makes) (are_amid contents failures new n.fits) known.found known.clean (sees h made r known (subst HasRun (sym is.1) tt))
       refl made.after refl k' n.took.ends)
@@ -110,7 +110,7 @@ module _ {D : Type 0} (contents : D → List (List ℕ)) (failures : D → ℕ) 
       let c : Came = came.Stepped (outcome.Done reply) in
       let is : made.came ≡ DidEnd reply = ended_is sizes made.came reply (came_as (Step h Passes) c n.makes) in
       let r : RunsAStep sizes h Passes s made was now = subst (λ (z : EventOutcome L). StepDoes sizes h Passes s made z was now) is known.does in
-      subst (λ (z : EventOutcome L). Agrees contents failures sizes made.after (kept_step N h z (N.tree s.world) (N.tree made.after.world) (told_of N (placed N (Step h Passes) s)) b) new k' now) (sym is)
+      subst (λ (z : EventOutcome L). Agrees contents failures sizes made.after (kept_step N h z (N.tree s.world) (N.tree made.after.world) (told_of N (placed sizes.version N (Step h Passes) s)) b) new k' now) (sym is)
       (ran_out contents failures sizes in_time h s made was now r b old new k agree (Some tt) n.heard n.tells.place n.tells.others n.took.amid n.took.runs known.moves
       (after_as (Step h Passes) c n.makes) (are_amid contents failures new n.fits) known.found known.clean (sees h made r known (subst HasRun (sym is) tt))
       tt refl (known.rests h) made.after refl k' reply n.took.ends)

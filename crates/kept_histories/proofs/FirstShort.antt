@@ -12,9 +12,9 @@ use Rattle.fs_layout.specs.declared.superblock.Super.{Super}
 use Rattle.fs_machine.specs.LogPart.{Passes}
 use Rattle.hart_core.specs.Harts.{HartsOf, shared_of}
 use Rattle.hart_core.specs.Telling.{RanAt, rest_of}
-use Rattle.inode_machine.specs.VersionOne.{exec}
+use Rattle.inode_machine.specs.Exec.{exec}
 use Rattle.inode_machine.specs.Inodes.{InodeType}
-use Rattle.inode_machine.specs.VersionOne.{go, with_mark}
+use Rattle.inode_machine.specs.Marks.{go, with_mark}
 use Rattle.inode_machine.specs.Rooms.{says_no_room}
 use Rattle.inode_machine.specs.World as above
 use Rattle.inode_machine.specs.World.Op.{Claim, Leave, LockFile, LockOpen, StatFile, Take}
@@ -42,17 +42,18 @@ use Rattle.tree_laws.specs.History.{History}
 use Rattle.whole_calls.specs.Wholes.{WholeFits, action_in, whole_of}
 use Rattle.kept_histories.proofs.Claiming.{GivesBackOf, claim_short}
 use Rattle.kept_histories.proofs.Lacking.{gives_lacks}
-use Rattle.kept_histories.proofs.Lasting.{SomeLacks}
+use Rattle.kept_histories.proofs.Lasting.{Lacks, SomeLacks}
 use Rattle.kept_histories.proofs.Agreeing.{Agrees, Has, has}
 use Rattle.kept_histories.proofs.Amid.{AreAmid}
 use Rattle.kept_histories.proofs.Controls.{at_end}
 use Rattle.kept_histories.proofs.Heads.{IsFineOp, MakesNone}
 use Rattle.kept_histories.proofs.KeptCalls.{KeptAs, same_asked}
-use Rattle.kept_histories.proofs.Marks.{calls_stay, or_true, spoils_none, spoils_so}
+use Rattle.kept_histories.proofs.Marks.{calls_stay, or_true, spoils_none, spoils_so, version_stays}
 use Rattle.kept_histories.proofs.ReadRooms.{is_read}
 use Rattle.kept_histories.proofs.StepMarks.{HeardAt, SeesAlike, fine_unless, same_marks, text_marks}
 use Rattle.kept_histories.proofs.Stepped.{Comes, comes_to}
 use Rattle.kept_histories.proofs.Together.{CallGoes, HartAt, StillCalled, Together, call_goes, heard_so, still_called}
+use Rattle.image_versions.specs.declared.version.Version.{Version}
 
 -- ---- an operation that acts, and leaves the world unclean
 
@@ -64,17 +65,19 @@ short_by true b clean short = refl
 short_by false b clean short = true_false (sym clean ∙ short)
 
 -- its mark says that there was no room
-acts_short : (h : ℕ) (x : above.Outside) (op : above.Op) (m : above.Answer op → Option above.Mark) (v w : above.World) (a : above.Answer op) → go h x op m v ≡ Ran a w
+acts_short : (version : Version) (h : ℕ) (x : above.Outside) (op : above.Op) (m : above.Answer op → Option above.Mark) (v w : above.World) (a : above.Answer op)
+    → go version h x op m v ≡ Ran a w
     → v.clean ≡ true → w.clean ≡ false → spoils (m a) ≡ true
-acts_short h x op m v w a e clean short =
-    short_by (spoils (m a)) v.clean clean (sym (after_clean h (m a) v w a (exec h x op v) (goes_on h x op v) (by (exec h x op v) (goes_on h x op v) e)) ∙ short)
+acts_short version h x op m v w a e clean short =
+    short_by (spoils (m a)) v.clean clean (sym (after_clean version h (m a) v w a (exec version h x op v) (goes_on version h x op v)
+    (by (exec version h x op v) (goes_on version h x op v) e)) ∙ short)
   where
-    by : (d : ExecResult (above.Answer op) above.World) → Goes h v d → with_mark h m d ≡ Ran a w → with_mark h (λ _. m a) d ≡ Ran a w
+    by : (d : ExecResult (above.Answer op) above.World) → Goes h v d → with_mark version h m d ≡ Ran a w → with_mark version h (λ _. m a) d ≡ Ran a w
     by Waits g e = absurd cc
     by (Stops u) g e = absurd g
     by (Ran b u) g e =
         let same : b ≡ a = cc in
-        ap (λ (z : above.Answer op). with_mark h (λ _. m z) (Ran b u)) (sym same) ∙ e
+        ap (λ (z : above.Answer op). with_mark version h (λ _. m z) (Ran b u)) (sym same) ∙ e
 
 -- ---- when an operation acts
 
@@ -126,7 +129,7 @@ module _ {D : Type 0} (contents : D → List (List ℕ)) (failures : D → ℕ) 
     (was now : ℕ → Option UnderWay) (r : RunsAStep sizes h Passes s made was now) (b : History) (old new : HartsOf D) (k : KeptTree)
     (agree : Agrees contents failures sizes s b old k was) (out : Option (Unit {0})) (came : Option Heard)
     (ran : RanAt h (get_or old.calls h None) out came (get_or new.calls h None) (shared_of contents failures old) (shared_of contents failures new))
-    (amid : KeptTree) (kept : HasRun k h came amid) (fine : AreAmid new) (sees : SeesAlike r.under (tree_of k.tree) s.world.seen (r.rest r.answer) (or_else r.acts r.under.acted))
+    (amid : KeptTree) (kept : HasRun k h came amid) (fine : AreAmid new) (sees : SeesAlike sizes.version r.under (tree_of k.tree) s.world.seen (r.rest r.answer) (or_else r.acts r.under.acted))
     (leads : LeadTo (handlers sizes r.under.hand r.under.op r.under.mark) r.under.ran r.under.left)
     (tells_so : (a : above.Answer r.under.op) → spoils (r.under.mark a) ≡ says_no_room r.under.op a) (shows : Shows s.world.real.blocks s.world.seen)
     (clean : s.world.seen.clean ≡ true) (short : made.after.world.seen.clean ≡ false) where
@@ -169,18 +172,18 @@ module _ {D : Type 0} (contents : D → List (List ℕ)) (failures : D → ℕ) 
     a : above.Answer r.under.op
     is : r.acts ≡ Some a
     finds_none : spoils (r.under.mark a) ≡ true
-    truly : SeesTruly r.under.op a s.world.seen
+    truly : SeesTruly sizes.version r.under.op a s.world.seen
 
   -- it acts in this step, and finds no room
   acts : ActsShort
   acts = by r.acts refl r.does
     where
-      by : (o : Option (above.Answer r.under.op)) → r.acts ≡ o → IsMadeBy h r.under o s.world.seen made.after.world.seen → ActsShort
+      by : (o : Option (above.Answer r.under.op)) → r.acts ≡ o → IsMadeBy sizes.version h r.under o s.world.seen made.after.world.seen → ActsShort
       by None e does = true_false (sym clean ∙ ap (λ (w : above.World). w.clean) (sym does) ∙ short)
       by (Some a) e does = record {
         a = a;
         is = e;
-        finds_none = acts_short h does.0.0 r.under.op r.under.mark s.world.seen made.after.world.seen a does.0.1 clean short;
+        finds_none = acts_short sizes.version h does.0.0 r.under.op r.under.mark s.world.seen made.after.world.seen a does.0.1 clean short;
         truly = does.1;
       }
 
@@ -191,21 +194,23 @@ module _ {D : Type 0} (contents : D → List (List ℕ)) (failures : D → ℕ) 
   ended : (z : Handover (above.Answer r.under.op) Carry) → r.rest r.answer ≡ Ret z → acts.a ≡ z.answer
   ended z is = Some-inj acts.a z.answer (sym acted ∙ subst (EndsAsActed r.under (or_else r.acts r.under.acted)) is r.ends)
 
-  program : KeptAs (Do r.under.op r.under.mark r.under.rest) here.call
+  program : KeptAs sizes.version (Do r.under.op r.under.mark r.under.rest) here.call
   program = here.together.kept
 
-  asked : asks (whole_of here.call.listed here.call.whole) ≡ Some r.under.op
-  asked = same_asked (Do r.under.op r.under.mark r.under.rest) here.call program r.under.op refl
+  asked : asks (whole_of sizes.version here.call.listed here.call.whole) ≡ Some r.under.op
+  asked = same_asked sizes.version (Do r.under.op r.under.mark r.under.rest) here.call program r.under.op refl
 
   -- the kept call's mark at what is heard is the operation's at that answer
-  marked_at : (v : Under) → KeptAs (Do r.under.op r.under.mark r.under.rest) v → (y : Heard) (text : List ℕ)
-      → mark_at (whole_of v.listed v.whole) y ≡ r.under.mark (answer_to text r.under.op y)
+  marked_at : (v : Under) → KeptAs sizes.version (Do r.under.op r.under.mark r.under.rest) v → (y : Heard) (text : List ℕ)
+      → mark_at (whole_of sizes.version v.listed v.whole) y ≡ r.under.mark (answer_to text r.under.op y)
   marked_at v program y text =
-      sym (same_marks (Do r.under.op r.under.mark r.under.rest) v program y) ∙ text_marks (Do r.under.op r.under.mark r.under.rest) v program [] text y
+      sym (same_marks sizes.version (Do r.under.op r.under.mark r.under.rest) v program y)
+      ∙ text_marks sizes.version (Do r.under.op r.under.mark r.under.rest) v program [] text y
 
   -- ---- what is kept
 
-  full_by : (y : Heard) → mark_at (whole_of here.call.listed here.call.whole) y ≡ r.under.mark acts.a → MarksAt here.call y kept.marked → amid.full ≡ true
+  full_by : (y : Heard) → mark_at (whole_of sizes.version here.call.listed here.call.whole) y ≡ r.under.mark acts.a → MarksAt sizes.version here.call y kept.marked
+      → amid.full ≡ true
   full_by y same marks =
       ap (λ (z : KeptTree). z.full) kept.hears.kept
       ∙ known_by k h here.call (r.under.mark acts.a) kept.marked kept.between kept.moves (sym (marks here.call.listed) ∙ same) acts.finds_none
@@ -215,37 +220,41 @@ module _ {D : Type 0} (contents : D → List (List ℕ)) (failures : D → ℕ) 
 
   -- at the end of its program
   full_at_end : (z : Handover (above.Answer r.under.op) Carry) → r.rest r.answer ≡ Ret z → (begun : Bool) (y : Option Heard) → HeardAt r.under (r.rest r.answer) y
-      → MarksIn (tree_of k.tree) here.call (Some r.under.op) false begun y kept.marked → amid.full ≡ true
+      → MarksIn sizes.version (tree_of k.tree) here.call (Some r.under.op) false begun y kept.marked → amid.full ≡ true
   full_at_end z is begun None at m = true_false (ap at_end (sym is) ∙ at)
   full_at_end z is begun (Some y) at m = full_by y (marked_at here.call program y at.2 ∙ sym (ap r.under.mark (ended at.0 at.1 ∙ at.3))) (by begun m)
     where
-      by : (begun : Bool) → MarksIn (tree_of k.tree) here.call (Some r.under.op) false begun (Some y) kept.marked → MarksAt here.call y kept.marked
+      by : (begun : Bool) → MarksIn sizes.version (tree_of k.tree) here.call (Some r.under.op) false begun (Some y) kept.marked
+          → MarksAt sizes.version here.call y kept.marked
       by true m = m
       by false m = m
 
   full_first : none_ran r.under.ran ≡ true → acts_first r.under.op ≡ true → (y : Option Heard) → HeardAt r.under (r.rest r.answer) y
-      → MarksIn (tree_of k.tree) here.call (Some r.under.op) true false y kept.marked → amid.full ≡ true
+      → MarksIn sizes.version (tree_of k.tree) here.call (Some r.under.op) true false y kept.marked → amid.full ≡ true
   full_first none takes (Some y) at m = full_by y (marked_at here.call program y at.2 ∙ sym (ap r.under.mark (ended at.0 at.1 ∙ at.3))) m
   full_first none takes None at m =
       full_by m.0 (marked_at here.call program m.0 [] ∙ sym (sees takes none at m.0 acts.a m.1 acts.truly acted)) m.2
 
   -- ---- a claim whose block is given back
 
+  version : kept.between.version ≡ sizes.version
+  version = version_stays k h kept.marked kept.between kept.moves ∙ agree.version
+
   still : StillCalled here.call (hart_in kept.between h)
   still = still_called here.call (hart_in kept.between h) (hart_in k h) here.found (calls_stay k h kept.marked kept.between kept.moves h)
 
-  kept_as : KeptAs (Do r.under.op r.under.mark r.under.rest) still.call
-  kept_as = subst (λ (z : Under). KeptAs (Do r.under.op r.under.mark r.under.rest) z) (sym still.same) program
+  kept_as : KeptAs sizes.version (Do r.under.op r.under.mark r.under.rest) still.call
+  kept_as = subst (λ (z : Under). KeptAs sizes.version (Do r.under.op r.under.mark r.under.rest) z) (sym still.same) program
 
-  fits : WholeFits still.call.listed still.call.whole
-  fits = subst (λ (z : Under). WholeFits z.listed z.whole) (sym still.same) here.together.fits
+  fits : WholeFits sizes.version still.call.listed still.call.whole
+  fits = subst (λ (z : Under). WholeFits sizes.version z.listed z.whole) (sym still.same) here.together.fits
 
   sized : left.control.sizes ≡ sizes
   sized = tells.tells.sizes ∙ here.together.sized
 
-  goes : out ≡ None → CallGoes sizes r.under (r.rest r.answer) (now h) left h kept.between amid still.call still.is kept_as fits came kept.hears sized
+  goes : out ≡ None → CallGoes sizes r.under (r.rest r.answer) (now h) left h kept.between amid still.call still.is kept_as fits came kept.hears sized version
   goes e =
-      call_goes sizes r.under (r.rest r.answer) (now h) left h kept.between amid still.call still.is kept_as fits came kept.hears sized left.control.ended
+      call_goes sizes r.under (r.rest r.answer) (now h) left h kept.between amid still.call still.is kept_as fits came kept.hears sized version left.control.ended
       (subst (λ (o : Option (Unit {0})). Comes sizes r.under (r.rest r.answer) (now h) left.control left.hand o left.control.ended) e comes)
       ran_here.2
 
@@ -258,6 +267,7 @@ module _ {D : Type 0} (contents : D → List (List ℕ)) (failures : D → ℕ) 
       let on = goes e in
       let then_ : UnderWay = record r.under { ran = c.ran; left = r.rest r.answer; acted = c.acted } in
       let at : Together sizes then_ left on.then_ = subst (λ (z : Option UnderWay). HartAt sizes z (Some left) (Some on.then_)) c.is on.at in
+      let amid_version : amid.version ≡ sizes.version = ap (λ (z : KeptTree). z.version) kept.hears.kept ∙ version in
       let claims = claim_spoils r.under.op r.under.mark (r.rest r.answer) gives tells_so in
       inr (
         e,
@@ -267,25 +277,26 @@ module _ {D : Type 0} (contents : D → List (List ℕ)) (failures : D → ℕ) 
           call = on.then_;
           code = ran_here.3 ∙ ap (λ (o : Option (Unit {0})). rest_of o left) e;
           kept = on.found;
-          lacks = record {
-            code = gives_lacks then_ left.control left.hand c.stands gives;
-            op = (claims.0, same_asked (Do r.under.op r.under.mark r.under.rest) on.then_ at.kept r.under.op refl ∙ ap Some claims.1);
+          lacks = subst (λ (z : Version). Lacks z left on.then_) (sym amid_version) (record {
+            code = gives_lacks sizes.version then_ left.control left.hand c.stands gives;
+            op = (claims.0, same_asked sizes.version (Do r.under.op r.under.mark r.under.rest) on.then_ at.kept r.under.op refl ∙ ap Some claims.1);
             fits = at.fits;
             spoils = ap spoils (marked_at on.then_ at.kept (heard.Claimed claimed.NoPlace) []) ∙ claims.2;
-          };
+          });
         },
       )
 
   -- ---- all
 
-  here_marks : MarksIn (tree_of k.tree) here.call (Some r.under.op) (acts_first r.under.op) here.call.has_begun came kept.marked
+  here_marks : MarksIn sizes.version (tree_of k.tree) here.call (Some r.under.op) (acts_first r.under.op) here.call.has_begun came kept.marked
   here_marks =
-      subst (λ (z : Option Under). MarksBy (tree_of k.tree) z came kept.marked) here.found kept.marks here.call.listed r.under.op here.together.fits asked
+      subst (λ (z : Option Under). MarksBy sizes.version (tree_of k.tree) z came kept.marked) here.found
+      (subst (λ (z : Version). MarksBy z (tree_of k.tree) (hart_in k h) came kept.marked) agree.version kept.marks) here.call.listed r.under.op here.together.fits asked
 
-  marks_then : (first begun : Bool) → acts_first r.under.op ≡ first → here.call.has_begun ≡ begun → MarksIn (tree_of k.tree) here.call (Some r.under.op) first begun came kept.marked
+  marks_then : (first begun : Bool) → acts_first r.under.op ≡ first → here.call.has_begun ≡ begun → MarksIn sizes.version (tree_of k.tree) here.call (Some r.under.op) first begun came kept.marked
   marks_then first begun e f =
-      subst (λ (z : Bool). MarksIn (tree_of k.tree) here.call (Some r.under.op) z begun came kept.marked) e
-      (subst (λ (z : Bool). MarksIn (tree_of k.tree) here.call (Some r.under.op) (acts_first r.under.op) z came kept.marked) f here_marks)
+      subst (λ (z : Bool). MarksIn sizes.version (tree_of k.tree) here.call (Some r.under.op) z begun came kept.marked) e
+      (subst (λ (z : Bool). MarksIn sizes.version (tree_of k.tree) here.call (Some r.under.op) (acts_first r.under.op) z came kept.marked) f here_marks)
 
   -- it acts then, by the step's place in its program
   acts_then : (t : ActingTime) → time_of r.under.op ≡ t → ActsThen t (none_ran r.under.ran) (is_at_end (r.rest r.answer)) true
@@ -294,7 +305,7 @@ module _ {D : Type 0} (contents : D → List (List ℕ)) (failures : D → ℕ) 
       (subst (λ (o : Option (above.Answer r.under.op)). ActsThen (time_of r.under.op) (none_ran r.under.ran) (is_at_end (r.rest r.answer)) (is_some o)) acts.is r.then_)
 
   none_made : MakesNoMove r.under.op → (a : above.Answer r.under.op) → MakesNone (r.under.mark a)
-  none_made f = f.1 r.under.mark (fine_unless (Do r.under.op r.under.mark r.under.rest) here.call program f.0)
+  none_made f = f.1 r.under.mark (fine_unless sizes.version (Do r.under.op r.under.mark r.under.rest) here.call program f.0)
 
   never_short : (m : Option above.Mark) → spoils m ≡ false → spoils m ≡ true → Result
   never_short m room e = true_false (sym e ∙ room)

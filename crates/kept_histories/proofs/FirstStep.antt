@@ -1,6 +1,6 @@
 -- When an operation takes an inode's lock, its program may go on after the first step. Then the settled tree has the
 -- inode as the world above has it on its disk.
-use Rattle.std.specs.Prelude.{◌≡◌, ◌⊎◌, ◌<◌, ◌≤◌, ◌&&◌, ◌==◌, nat_lt, ℕ, Bool, true, false, if◌then◌else◌, IsSome, Option, Some, None}
+use Rattle.std.specs.Prelude.{◌≡◌, ◌⊎◌, ◌*◌, ◌^◌, ◌<◌, ◌≤◌, ◌&&◌, ◌==◌, nat_lt, ℕ, Bool, true, false, if◌then◌else◌, IsSome, length, Option, Some, None}
 use Rattle.std.specs.Option.{option_map}
 use Rattle.inodes_on_blocks.proofs.Vocabulary.{refl, sym, ◌∙◌, ap, subst, inl, inr, arith, nat_tests, none-some, and_true, load_unless, Named, search, largest_size}
 use Rattle.atomic_programs.specs.Joined.{Both, Handover, both}
@@ -23,7 +23,7 @@ use Rattle.inode_machine.proofs.Vocabulary.{settle_alive, settle_or}
 use Rattle.inode_machine.specs.Exec.{entry_of, is_dead, read_refused}
 use Rattle.inode_machine.specs.Inodes.{Query, Sight, AtNothing, AtName, AtEntries}
 use Rattle.inode_machine.specs.Rules.{Inv}
-use Rattle.inode_machine.specs.VersionOne.{machine}
+use Rattle.inode_machine.specs.Rules.{machine}
 use Rattle.inode_machine.specs.World as above
 use Rattle.inode_machine.specs.World.Op.{LockFile, Take}
 use Rattle.inodes_on_blocks.proofs.Basics.{by_lock, descriptors_name_files, live_is, place_there, unkept_old, unlocked_holds}
@@ -47,6 +47,11 @@ use Rattle.inode_machine.specs.Vocabulary.{hart_count}
 use Rattle.tree_histories.specs.Sights.{FewSlots, FewSlotsIn}
 use Rattle.kept_histories.proofs.Controls.{at_end}
 use Rattle.inodes_on_blocks.specs.Vocabulary.{Searched, is_directory as is_directory_record}
+use Rattle.fs_layout.specs.Recovered.{sizes_of, version_in}
+use Rattle.image_versions.proofs.Places.{in_range}
+use Rattle.image_versions.specs.Versions.{dirent_len_of}
+use Rattle.image_versions.specs.declared.version.Version.{Version}
+use Rattle.std.proofs.lemmas.Nat.{mul-le}
 
 abbrev pub W : Type 0
 W = Both World above.World
@@ -59,10 +64,10 @@ GoesOn sizes h w Goal (Do op m k) =
     → at_end (k b) ≡ false → Goal
 
 -- the settled tree has inode n as the world above has it on disk
-pub record ShownAlike (t : Tree) (w : above.World) (n : ℕ) : Type 0 where
+pub record ShownAlike (version : Version) (t : Tree) (w : above.World) (n : ℕ) : Type 0 where
   pub same : t.nodes n ≡ w.disk n
   pub below : n < t.ninodes
-  pub few : FewSlotsIn (t.nodes n)
+  pub few : FewSlotsIn version (t.nodes n)
 
 -- a record is that of a directory with links
 abbrev live_record : Dinode → Bool
@@ -77,20 +82,32 @@ same_answer : {A S : Type 0} (a b : A) (s t : S) → ◌≡◌ {A = ExecResult A
 same_answer a b s t e = cc
 
 -- a step of the tables ran there
-on_tables : (h : ℕ) (op : steps.Op) (m : steps.Answer op → Option Acts) (w : W) (d : ExecResult (steps.Answer op) TablesState) (b : steps.Answer op) (u : W)
-    → both machine h m w.seen (exec_result_in (λ v. record (w.real) { blocks = v }) (came_to h op w.real.blocks (in_tables w.real.blocks.state d))) ≡ Ran b u → (t : TablesState) × (d ≡ Ran b t)
-on_tables h op m w Waits b u e = absurd (never_ran b u e)
-on_tables h op m w (Stops t) b u e = absurd (let q : Stops _ ≡ Ran b u = e in cc)
-on_tables h op m w (Ran a t) b u e = (t, ap (λ (z : steps.Answer op). Ran z t) (same_answer a b _ u e))
+on_tables : (version : Version) (h : ℕ) (op : steps.Op) (m : steps.Answer op → Option Acts) (w : W) (d : ExecResult (steps.Answer op) TablesState) (b : steps.Answer op)
+    (u : W)
+    → both (machine version) h m w.seen (exec_result_in (λ v. record (w.real) { blocks = v }) (came_to h op w.real.blocks (in_tables w.real.blocks.state d))) ≡ Ran b u → (t : TablesState) × (d ≡ Ran b t)
+on_tables version h op m w Waits b u e = absurd (never_ran b u e)
+on_tables version h op m w (Stops t) b u e = absurd (let q : Stops _ ≡ Ran b u = e in cc)
+on_tables version h op m w (Ran a t) b u e = (t, ap (λ (z : steps.Answer op). Ran z t) (same_answer a b _ u e))
 
 -- ---- an inode that is looked at
+
+-- a directory's slots are few in each version, if they take no more than a content has in one
+few_slots : (d v : Version) (n size : ℕ) → size ≡ dirent_len_of d * n → size ≤ largest_size → dirent_len_of v * n < 2 ^ 64
+few_slots d v n size is limit =
+    let least = mul-le 16 n (dirent_len_of d) n (in_range d).2 (omega arith) in
+    let most = mul-le (dirent_len_of v) n 32 n (in_range v).3 (omega arith) in
+    omega (arith, is, limit, least, most)
 
 module _ (sizes : Super) (h n : ℕ) (w : W) (lt : h < hart_count) (shows : Shows w.real.blocks w.seen) (inv : Inv w.seen) (shared : w.seen.alone n ≡ false) where
   abbrev t : TablesState
   t = tables_of w.real.blocks
 
+  -- the version that the disk says
+  abbrev here : Version
+  here = version_in (disk_of (log_of w.real.blocks))
+
   abbrev goal : Type 0
-  goal = ShownAlike (settle w.seen.all) w.seen n
+  goal = ShownAlike sizes.version (settle w.seen.all) w.seen n
 
   -- if nobody has its lock, nobody keeps it
   unkept : w.seen.lock n ≡ None → w.seen.keeper n ≡ None
@@ -113,21 +130,21 @@ module _ (sizes : Super) (h n : ℕ) (w : W) (lt : h < hart_count) (shows : Show
     abbrev Stays : Type 0
     Stays = (w.seen.disk n ≡ None) ⊎ (is_live (w.seen.disk n) ≡ true)
 
-    few : (o : Option Node) → HoldsAt (disk_of (log_of w.real.blocks)) w.real.blocks.owner n o → FewSlotsIn o
+    few : (o : Option Node) → HoldsAt (disk_of (log_of w.real.blocks)) w.real.blocks.owner n o → FewSlotsIn sizes.version o
     few None held = tt
     few (Some v) held = by v.kind held.inode.size
       where
         limit : (inode_in (log_of w.real.blocks) n).size ≤ largest_size
-        limit = (held.room (in_use (inode_in (log_of w.real.blocks) n) v held.inode)).limit
+        limit = (held.room (in_use here (inode_in (log_of w.real.blocks) n) v held.inode)).limit
 
-        by : (k : NodeKind) → (inode_in (log_of w.real.blocks) n).size ≡ size_in k → FewSlots k
-        by (Directory slots) e = omega (arith, e, limit)
+        by : (k : NodeKind) → (inode_in (log_of w.real.blocks) n).size ≡ size_in here k → FewSlots sizes.version k
+        by (Directory slots) e = few_slots here sizes.version (length slots) (inode_in (log_of w.real.blocks) n).size e limit
         by (File bytes) e = tt
         by (Device major minor size) e = tt
 
     alike : Stays → goal
     unfolding settle
-    alike stays = record { same = same; below = (shows.tables.range n some).1; few = subst FewSlotsIn (sym same) (few (w.seen.disk n) holds) }
+    alike stays = record { same = same; below = (shows.tables.range n some).1; few = subst (FewSlotsIn sizes.version) (sym same) (few (w.seen.disk n) holds) }
       where
         none : w.seen.disk n ≡ None → (settle w.seen.all).nodes n ≡ w.seen.all.nodes n
         none e = elim (settle_or w.seen.all n) [
@@ -160,13 +177,13 @@ module _ (sizes : Super) (h n : ℕ) (w : W) (lt : h < hart_count) (shows : Show
         by : (o : Option Node) → w.seen.disk n ≡ o → HoldsAt (disk_of (log_of w.real.blocks)) w.real.blocks.owner n o → Stays
         by None e held = inl e
         by (Some v) e held =
-            let used = in_use (inode_in (log_of w.real.blocks) n) v held.inode in
-            let same : live_directory (Some v) ≡ true = sym (live_is (disk_of (log_of w.real.blocks)) w.real.blocks.owner n v held used) ∙ ap live_record (sym (shows.loads.seen n l is)) ∙ live in
+            let used = in_use here (inode_in (log_of w.real.blocks) n) v held.inode in
+            let same : live_directory (Some v) ≡ true = sym (live_is (sizes_of (disk_of (log_of w.real.blocks))) (disk_of (log_of w.real.blocks)) refl w.real.blocks.owner n v held used) ∙ ap live_record (sym (shows.loads.seen n l is)) ∙ live in
             inr (ap is_live e ∙ (and_true (nat_lt 0 v.count) (is_directory v.kind) same).0)
 
   -- what is loaded, and that the program goes on
   goes_on : (looking : Query) (c : Carry) (free : w.seen.lock n ≡ None) (some : 0 < w.seen.refs n) → (looking ≡ AtEntries → is_live (w.seen.all.nodes n) ≡ true)
-      → (o : Option Loaded) → loaded t n ≡ o → at_end (bind (load_unless {M = Acts} sizes.inodestart n o) (looked looking c n)) ≡ false → Stays free some
+      → (o : Option Loaded) → loaded t n ≡ o → at_end (bind (load_unless {M = Acts} sizes.inodestart n o) (looked sizes.version looking c n)) ≡ false → Stays free some
   goes_on looking c free some live None e on = unloaded free some e
   goes_on AtNothing c free some live (Some l) e on = absurd (let q : true ≡ false = on in cc)
   goes_on AtEntries c free some live (Some l) e on = inr (ap is_live (whole free some) ∙ live refl)
@@ -180,19 +197,19 @@ module _ (sizes : Super) (h n : ℕ) (w : W) (lt : h < hart_count) (shows : Show
 
       by : (b : Bool) → live_record l.inode ≡ b → Stays free some
       by true q = seen_alive free some l e q
-      by false q = absurd (let z : true ≡ false = sym (ap (λ (b : Bool). at_end (bind (if b then search (Named name) l else none) then_)) q) ∙ on in cc)
+      by false q = absurd (let z : true ≡ false = sym (ap (λ (b : Bool). at_end (bind (if b then search sizes.version (Named name) l else none) then_)) q) ∙ on in cc)
 
   pub take_goes : (looking : Query) (c : Carry) (m : Sight → Option above.Mark) → (looking ≡ AtEntries → is_live (w.seen.all.nodes n) ≡ true) → GoesOn sizes h w goal (handlers sizes c (Take n looking) m)
   unfolding premises.May steps.exec
   take_goes looking c m live = λ x b u may ran on.
       let some : 0 < w.seen.refs n = subst (λ (k : ℕ). 0 < k) (sym (shows.tables.places.counts n)) may.0 in
       let p = place_there n t w.seen (loaded t) shows.tables some in
-      let r = on_tables h (steps.Lock n) (λ _. acts (Take n looking) above.Room m) w (lock_inode h n t) b u ran in
+      let r = on_tables sizes.version h (steps.Lock n) (λ _. acts (Take n looking) above.Room m) w (lock_inode h n t) b u ran in
       by_lock h n p.0 t w.seen (loaded t) shows.tables p.1 goal
       (λ waits g out. absurd (never_ran b r.0 (sym waits ∙ r.1)))
       (λ z had free after.
       let is : loaded t n ≡ b = same_answer (loaded t n) b z r.0 (sym had ∙ r.1) in
-      alike free some (goes_on looking c free some live (loaded t n) refl (subst (λ (o : Option Loaded). at_end (bind (load_unless {M = Acts} sizes.inodestart n o) (looked looking c n)) ≡ false) (sym is) on)))
+      alike free some (goes_on looking c free some live (loaded t n) refl (subst (λ (o : Option Loaded). at_end (bind (load_unless {M = Acts} sizes.inodestart n o) (looked sizes.version looking c n)) ≡ false) (sym is) on)))
 
 -- ---- an open file
 
@@ -212,7 +229,7 @@ module _ (sizes : Super) (h fd : ℕ) (w : W) (lt : h < hart_count) (free : (w.s
   pub file_goes : (c : Carry) (m : above.LockResult → Option above.Mark) → GoesOn sizes h w (read_refused (entry_of w.seen h fd) ≡ None) (handlers sizes c (LockFile fd) m)
   unfolding premises.May steps.exec lock_file
   file_goes c m = λ x b u may ran on.
-      let r = on_tables h (steps.LockFile want.Read fd) (λ _. acts (LockFile fd) above.Room m) w (lock_file h want.Read fd now) b u ran in
+      let r = on_tables sizes.version h (steps.LockFile want.Read fd) (λ _. acts (LockFile fd) above.Room m) w (lock_file h want.Read fd now) b u ran in
       let none = refuses (file_named h fd now) (refusal_of want.Read (file_named h fd now)) b r.0 c r.1 on in
       let names = descriptors_name_files h fd now w.seen (loaded now) shows.tables inv (record { below = lt; free = free }) in
       readable (read_refused (entry_of w.seen h fd)) (sym names.1 ∙ none)

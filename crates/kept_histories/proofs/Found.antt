@@ -8,8 +8,8 @@ use Rattle.atomic_programs.specs.Joined.{Handover, ran_to}
 use Rattle.atomic_programs.specs.Prog.{ExecResult, Waits, Ran, Stops, Ret, Do}
 use Rattle.calls_on_blocks.specs.Theory.{block_calls}
 use Rattle.fs_layout.specs.declared.superblock.Super.{Super}
-use Rattle.inode_machine.specs.VersionOne.{exec}
-use Rattle.inode_machine.specs.VersionOne.{go, marked, with_mark}
+use Rattle.inode_machine.specs.Exec.{exec}
+use Rattle.inode_machine.specs.Marks.{go, marked, with_mark}
 use Rattle.inode_machine.specs.Parts as programs
 use Rattle.inode_machine.specs.World as above
 use Rattle.inode_machine.specs.World.Mark.{Makes, Frees, Orphans, Fills, Mends, Spoils}
@@ -23,28 +23,29 @@ use Rattle.run_laws.specs.Searches.{AnsweredStep}
 use Rattle.run_laws.specs.UnderWay.{EventDoes, IsMadeBy, RunsAStep, StartDoes, StepDoes, UnderWay, at_beginning, gone_on}
 use Rattle.run_laws.specs.Vocabulary.{Outside, or_else}
 use Rattle.kept_histories.proofs.Basics.{none_some}
+use Rattle.image_versions.specs.declared.version.Version.{Version}
 
 -- ---- an operation that acts
 
 -- a mark that leaves the world clean
-marked_room : (h : ℕ) (k : Option above.Mark) (w : above.World) → (marked h k w).clean ≡ true → spoils k ≡ false
-marked_room h None w e = refl
-marked_room h (Some (Makes v)) w e = refl
-marked_room h (Some (Frees n)) w e = refl
-marked_room h (Some (Orphans n)) w e = refl
-marked_room h (Some Fills) w e = absurd cc
-marked_room h (Some Mends) w e = absurd cc
-marked_room h (Some (Spoils s)) w e = absurd cc
+marked_room : (version : Version) (h : ℕ) (k : Option above.Mark) (w : above.World) → (marked version h k w).clean ≡ true → spoils k ≡ false
+marked_room version h None w e = refl
+marked_room version h (Some (Makes v)) w e = refl
+marked_room version h (Some (Frees n)) w e = refl
+marked_room version h (Some (Orphans n)) w e = refl
+marked_room version h (Some Fills) w e = absurd cc
+marked_room version h (Some Mends) w e = absurd cc
+marked_room version h (Some (Spoils s)) w e = absurd cc
 
-ran_room : {A : Type 0} (h : ℕ) (m : A → Option above.Mark) (v w : above.World) (a : A) (d : ExecResult A above.World) → Goes h v d → with_mark h m d ≡ Ran a w → w.clean ≡ true → spoils (m a) ≡ false
-ran_room h m v w a Waits g e clean = absurd cc
-ran_room h m v w a (Stops u) g e clean = absurd g
-ran_room h m v w a (Ran b u) g e clean =
+ran_room : (version : Version) {A : Type 0} (h : ℕ) (m : A → Option above.Mark) (v w : above.World) (a : A) (d : ExecResult A above.World) → Goes h v d → with_mark version h m d ≡ Ran a w → w.clean ≡ true → spoils (m a) ≡ false
+ran_room version h m v w a Waits g e clean = absurd cc
+ran_room version h m v w a (Stops u) g e clean = absurd g
+ran_room version h m v w a (Ran b u) g e clean =
     let same : b ≡ a = cc in
-    ap (λ (z : _). spoils (m z)) (sym same) ∙ marked_room h (m b) u (ap (λ (z : above.World). z.clean) (ap (ran_to w) e) ∙ clean)
+    ap (λ (z : _). spoils (m z)) (sym same) ∙ marked_room version h (m b) u (ap (λ (z : above.World). z.clean) (ap (ran_to w) e) ∙ clean)
 
-pub acts_room : (h : ℕ) (x : above.Outside) (op : above.Op) (m : above.Answer op → Option above.Mark) (v w : above.World) (a : above.Answer op) → go h x op m v ≡ Ran a w → w.clean ≡ true → spoils (m a) ≡ false
-acts_room h x op m v w a e clean = ran_room h m v w a (exec h x op v) (goes_on h x op v) e clean
+pub acts_room : (version : Version) (h : ℕ) (x : above.Outside) (op : above.Op) (m : above.Answer op → Option above.Mark) (v w : above.World) (a : above.Answer op) → go version h x op m v ≡ Ran a w → w.clean ≡ true → spoils (m a) ≡ false
+acts_room version h x op m v w a e clean = ran_room version h m v w a (exec version h x op v) (goes_on version h x op v) e clean
 
 -- ---- the operations under way
 
@@ -82,11 +83,11 @@ module _ (sizes : Super) (h : ℕ) (x : Outside) (s : State (block_calls sizes))
   pub acted_room : AllFound was → (a : above.Answer r.under.op) → or_else r.acts r.under.acted ≡ Some a → spoils (r.under.mark a) ≡ false
   acted_room all a e = by r.acts r.does e
     where
-      by : (acts : Option (above.Answer r.under.op)) → IsMadeBy h r.under acts s.world.seen made.after.world.seen → or_else acts r.under.acted ≡ Some a → spoils (r.under.mark a) ≡ false
+      by : (acts : Option (above.Answer r.under.op)) → IsMadeBy sizes.version h r.under acts s.world.seen made.after.world.seen → or_else acts r.under.acted ≡ Some a → spoils (r.under.mark a) ≡ false
       by None does e = all h r.under r.is a e
       by (Some b) does e =
           ap (λ (z : above.Answer r.under.op). spoils (r.under.mark z)) (sym (Some-inj b a e))
-          ∙ acts_room h does.0.0 r.under.op r.under.mark s.world.seen made.after.world.seen b does.0.1 clean
+          ∙ acts_room sizes.version h does.0.0 r.under.op r.under.mark s.world.seen made.after.world.seen b does.0.1 clean
 
   step_found : AllFound was → AllFound now
   step_found all =

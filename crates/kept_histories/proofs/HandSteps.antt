@@ -16,11 +16,11 @@ use Rattle.calls_on_blocks.specs.Theory.{begins, block_calls, served_calls, serv
 use Rattle.fs_layout.specs.declared.superblock.Super.{Super}
 use Rattle.fs_machine.specs.Steps as steps
 use Rattle.inode_machine.specs.Exec.{has_place, up_if}
-use Rattle.inode_machine.specs.VersionOne.{with_mark}
+use Rattle.inode_machine.specs.Marks.{with_mark}
 use Rattle.inode_machine.specs.Parts as programs
-use Rattle.inode_machine.specs.VersionOne.{program}
+use Rattle.inode_machine.specs.Programs.{program}
 use Rattle.inode_machine.specs.Rules.{Found, Inv, Others}
-use Rattle.inode_machine.specs.VersionOne.{machine}
+use Rattle.inode_machine.specs.Rules.{machine}
 use Rattle.inode_machine.specs.Vocabulary.{Deed, look}
 use Rattle.inode_machine.specs.World as above
 use Rattle.inode_machine.specs.World.Op.{Up}
@@ -40,6 +40,7 @@ use Rattle.run_laws.specs.WholeInodes.{IsStep, lowered_inode_calls, told_by, unr
 use Rattle.kept_histories.proofs.CallHands.{takes_so}
 use Rattle.kept_histories.proofs.Hands.{Hands, TakesSo, after}
 use Rattle.kept_histories.proofs.InHand.{HasFound, Holds, acts_so, empty_hands, others_hold, started_in_hand}
+use Rattle.image_versions.specs.declared.version.Version.{Version}
 
 abbrev pub W : Type 0
 W = Both World above.World
@@ -69,12 +70,13 @@ kept h v w inv o (Some u) t = record { hands = t.hands; left = t.left; holds = o
 
 -- ---- its own
 
-module _ (h : ℕ) (u : UnderWay) (v w : above.World) (inv : Inv v) (found : HasFound h v u.op) where
-  acts_on : (o : Option (above.Answer u.op)) → (is_some o ≡ true → u.acted ≡ None) → IsMadeBy h u o v w → TakesOn h v u u.acted → TakesOn h w u (or_else o u.acted)
+module _ (version : Version) (h : ℕ) (u : UnderWay) (v w : above.World) (inv : Inv v) (found : HasFound h v u.op) where
+  acts_on : (o : Option (above.Answer u.op)) → (is_some o ≡ true → u.acted ≡ None) → IsMadeBy version h u o v w → TakesOn h v u u.acted
+      → TakesOn h w u (or_else o u.acted)
   acts_on None once e t = subst (λ (z : above.World). TakesOn h z u u.acted) (sym e) t
   acts_on (Some a) once e t =
       let left : TakesSo t.hands (Do u.op u.mark u.rest) = subst (Left t.hands u) (once refl) t.left in
-      record { hands = after u.op a t.hands; left = left.1 a; holds = acts_so h t.hands v inv t.holds e.0.0 u.op u.mark a w found left.0 e.0.1 }
+      record { hands = after u.op a t.hands; left = left.1 a; holds = acts_so version h t.hands v inv t.holds e.0.0 u.op u.mark a w found left.0 e.0.1 }
 
 module _ (sizes : Super) (h : ℕ) (w : above.World) where
   begins_on : (c : Carry) (g : Option Hands) (p : programs.P Reply) → TakesSo g p → Holds h g w → InHands h w (at_beginning sizes c p)
@@ -91,9 +93,10 @@ module _ (sizes : Super) (h : ℕ) (v : above.World) where
   -- the step of a program below ran, and what it placed leads there
   abbrev Placed : {A : Type 0} → P A → Type 0
   Placed (Ret a) = Unit {0}
-  Placed (Do lop lm lk) = (b : steps.Answer lop) × (to : above.World) × Goes whole_inodes (unreserved v) (act_places whole_inodes h (lm b) v) to
+  Placed (Do lop lm lk) =
+      (b : steps.Answer lop) × (to : above.World) × Goes (whole_inodes sizes.version) (unreserved v) (act_places (whole_inodes sizes.version) h (lm b) v) to
 
-  step_found : (n : ℕ) (a : Bool) (mark : Option above.Mark) (told : Option Deed) (to : above.World) → IsStep (unreserved v) h (record { op = Up n; answer = a; mark = mark; told = told }) to → Found v.keeper v.all.nodes h n
+  step_found : (n : ℕ) (a : Bool) (mark : Option above.Mark) (told : Option Deed) (to : above.World) → IsStep sizes.version (unreserved v) h (record { op = Up n; answer = a; mark = mark; told = told }) to → Found v.keeper v.all.nodes h n
   step_found n a mark told to s =
       let f : Found s.before.keeper s.before.all.nodes h n = s.may.1 in
       record {
@@ -104,9 +107,11 @@ module _ (sizes : Super) (h : ℕ) (v : above.World) where
       }
 
   counts_found : (n : ℕ) (m : Bool → Option above.Mark) (to : above.World) (b : Bool)
-      → Goes whole_inodes (unreserved v) (placed_at (placed_with whole_inodes h (Up n) m v) (with_mark h m (up_if h n v b))) to → Found v.keeper v.all.nodes h n
-  counts_found n m to true g = step_found n true (m true) (told_by h (m true) v) g.0 g.1
-  counts_found n m to false g = step_found n false (m false) (told_by h (m false) v) g.0 g.1
+      → Goes (whole_inodes sizes.version) (unreserved v)
+      (placed_at (placed_with (whole_inodes sizes.version) h (Up n) m v) (with_mark sizes.version h m (up_if h n v b))) to
+      → Found v.keeper v.all.nodes h n
+  counts_found n m to true g = step_found n true (m true) (told_by sizes.version h (m true) v) g.0 g.1
+  counts_found n m to false g = step_found n false (m false) (told_by sizes.version h (m false) v) g.0 g.1
 
   pub has_found : (op : above.Op) (m : above.Answer op → Option above.Mark) (c : Carry) (ran : List AnsweredStep) (left : P (Handover (above.Answer op) Carry))
       → LeadTo (handlers sizes c op m) ran left → (IsAtEnd left → ⊥) → Placed left → HasFound h v op
@@ -187,13 +192,13 @@ module _ (sizes : Super) where
             (subst (λ (o : Option (Run L)). HonestStep L h x s.world false o) is (subst (λ (z : Bool). HonestStep L h x s.world z (s.running h)) off honest))
 
         came : I.M.go h x op m s.world ≡ Ran b w
-        came = both_same h m s.world.seen ((layer sizes).exec h x op s.world.real) ∙ ran
+        came = both_same sizes.version h m s.world.seen ((layer sizes).exec h x op s.world.real) ∙ ran
 
         -- nothing of the others changed, and what was placed leads on
         pub record Went : Type 0 where
           pub inv : Inv w.seen
           pub others : (j : ℕ) → j ≢ h → Others j s.world.seen [] w.seen
-          pub placed : Goes whole_inodes (unreserved s.world.seen) (act_places whole_inodes h (m b) s.world.seen) (unreserved w.seen)
+          pub placed : Goes (whole_inodes sizes.version) (unreserved s.world.seen) (act_places (whole_inodes sizes.version) h (m b) s.world.seen) (unreserved w.seen)
 
         pub went : Went
         went =
@@ -222,7 +227,7 @@ module _ (sizes : Super) where
           call = call_here s h u (s.running h) refl (subst (Fits sizes (s.running h)) r.is (fits h))
 
           after_this : Handover (above.Answer u.op) Carry → P Reply
-          after_this z = lowered machine (layer sizes) (handlers sizes) z.carry (u.rest z.answer)
+          after_this z = lowered (machine sizes.version) (layer sizes) (handlers sizes) z.carry (u.rest z.answer)
 
           asks_it : call.call.prog ≡ Do r.op r.mark (λ y. bind (r.rest y) after_this)
           asks_it = call.in_.is ∙ ap (λ (z : P (Handover (above.Answer u.op) Carry)). bind z after_this) r.asks
@@ -236,7 +241,7 @@ module _ (sizes : Super) where
               (subst (λ (z : P (Handover (above.Answer u.op) Carry)). Placed sizes h s.world.seen z) (sym r.asks) (r.answer, unreserved made.after.world.seen, ran.placed))
 
           on_it : TakesOn h made.after.world.seen u (or_else r.acts u.acted)
-          on_it = acts_on h u s.world.seen made.after.world.seen holds.1 found r.acts r.once r.does (subst (InHands h s.world.seen) r.is (hands h))
+          on_it = acts_on sizes.version h u s.world.seen made.after.world.seen holds.1 found r.acts r.once r.does (subst (InHands h s.world.seen) r.is (hands h))
 
           here : InHands h made.after.world.seen (now h)
           here =
@@ -252,7 +257,8 @@ module _ (sizes : Super) where
       abbrev RanOrStill : Made (block_calls sizes) → Type 0
       RanOrStill made = HasRun made.came ⊎ (made.after.world.seen ≡ s.world.seen)
 
-      stopped_still : {A : Type 0} (h : ℕ) (m : A → Option Acts) (d : ExecResult A World) (w : W) → both machine h m s.world.seen d ≡ Stops w → w.seen ≡ s.world.seen
+      stopped_still : {A : Type 0} (h : ℕ) (m : A → Option Acts) (d : ExecResult A World) (w : W) → both (machine sizes.version) h m s.world.seen d ≡ Stops w
+          → w.seen ≡ s.world.seen
       stopped_still h m Waits w e = absurd (let q : Waits ≡ Stops w = e in cc)
       stopped_still {A} h m (Ran a t) w e = absurd (let q : Ran a _ ≡ Stops w = e in cc)
       stopped_still h m (Stops t) w e = sym (seen_there e)
@@ -301,12 +307,13 @@ module _ (sizes : Super) where
         called j u None f = absurd f
         called j u (Some r) f = refl
 
-        begins_so : (h : ℕ) (call : Call) → s.running h ≡ None → (w : W) → L.start h call (busy_in L s) s.world ≡ Begins w → (j : ℕ) → InHands j w.seen (changed was h (at_beginning sizes nothing (program call)) j)
+        begins_so : (h : ℕ) (call : Call) → s.running h ≡ None → (w : W) → L.start h call (busy_in L s) s.world ≡ Begins w → (j : ℕ) → InHands j w.seen (changed was h (at_beginning sizes nothing (program sizes.version call)) j)
         begins_so h call none w e j = elim (same_or j h) [
-          | inl q ↦ subst (λ (z : ℕ). InHands z w.seen (changed was h (at_beginning sizes nothing (program call)) z)) (sym q)
-              (subst (InHands h w.seen) (sym (changed_same was h (at_beginning sizes nothing (program call)) h refl))
-              (begins_on sizes h w.seen nothing (Some empty_hands) (program call) (takes_so empty_hands call) (started_in_hand serves h call (busy_in L s) s.world.seen w.seen holds.1 (idle h free).1 started)))
-          | inr ne ↦ subst (InHands j w.seen) (sym (changed_other was h (at_beginning sizes nothing (program call)) j ne)) (others j ne (was j) (fits j) (hands j))
+          | inl q ↦ subst (λ (z : ℕ). InHands z w.seen (changed was h (at_beginning sizes nothing (program sizes.version call)) z)) (sym q)
+              (subst (InHands h w.seen) (sym (changed_same was h (at_beginning sizes nothing (program sizes.version call)) h refl))
+              (begins_on sizes h w.seen nothing (Some empty_hands) (program sizes.version call) (takes_so sizes.version empty_hands call) (started_in_hand serves h call (busy_in L s) s.world.seen w.seen holds.1 (idle h free).1 started)))
+          | inr ne ↦ subst (InHands j w.seen) (sym (changed_other was h (at_beginning sizes nothing (program sizes.version call)) j ne))
+              (others j ne (was j) (fits j) (hands j))
         ]
           where
             free : busy_in L s h ≡ false
@@ -315,10 +322,12 @@ module _ (sizes : Super) where
             right : Right L h call (busy_in L s) s.world w
             right = (lawful sizes).calls h call (busy_in L s) s.world w (inl holds) idle free e
 
-            lower : (begins sizes h call (busy_in L s) s.world.real ≡ Begins w.real) × (w.seen ≡ began_to s.world.seen (served_calls.start h call (busy_in L s) s.world.seen))
-            lower = begun_both (began_to s.world.seen (served_calls.start h call (busy_in L s) s.world.seen)) (begins sizes h call (busy_in L s) s.world.real) w e
+            lower : (begins sizes h call (busy_in L s) s.world.real ≡ Begins w.real) × (w.seen ≡ began_to s.world.seen ((served_calls sizes.version).start h call (busy_in L s) s.world.seen))
+            lower =
+                begun_both (began_to s.world.seen ((served_calls sizes.version).start h call (busy_in L s) s.world.seen))
+                (begins sizes h call (busy_in L s) s.world.real) w e
 
-            started : served_calls.start h call (busy_in L s) s.world.seen ≡ Begins w.seen
+            started : (served_calls sizes.version).start h call (busy_in L s) s.world.seen ≡ Begins w.seen
             started =
                 let b = starts_both sizes h call (busy_in L s) s.world.real w.real s.world.seen (inl holds.0) holds.1 idle free lower.0 in
                 b.begins ∙ ap (λ (z : above.World). Begins z) (sym (lower.1 ∙ ap (began_to s.world.seen) b.begins))

@@ -4,7 +4,7 @@ use Rattle.calls_on_blocks.proofs.Vocabulary.{inl, inr}
 use Rattle.atomic_programs.specs.Prog.{Ret, Do}
 use Rattle.inode_machine.specs.Naming.{in_parent, link_name, mkdir_in, unlink_in as unlink_whole}
 use Rattle.inode_machine.specs.Opening.{mends_unless_new, open_new}
-use Rattle.inode_machine.specs.VersionOne.{open_old}
+use Rattle.inode_machine.specs.Opening.{open_old}
 use Rattle.inode_machine.specs.Parts as programs
 use Rattle.inode_machine.specs.World as above
 use Rattle.inode_machine.specs.World.Mark.{Makes}
@@ -57,8 +57,9 @@ use Rattle.whole_calls.specs.declared.unlink.Unlink.TheVariants as unlink
 use Rattle.whole_calls.specs.declared.whole.Whole.{Whole}
 use Rattle.whole_calls.specs.declared.whole.Whole.TheVariants as whole
 use Rattle.whole_calls.specs.declared.writing.Write.{Write}
-use Rattle.plain_tree.specs.VersionOne.{elements}
+use Rattle.plain_tree.specs.Tree.{elements}
 use Rattle.whole_calls.specs.declared.writing.Write.TheVariants as writing
+use Rattle.image_versions.specs.declared.version.Version.{Version}
 
 -- a mark for which no move is made
 abbrev pub MakesNone : Option above.Mark → Type 0
@@ -78,14 +79,14 @@ IsFine (Do op m k) = IsFineOp op m
 
 -- ---- each call, wherever it is
 
-fine_walk : (s : Action) (path : List ℕ) (after : After) (to : Goal) (ns : List ℕ) (w : Walk) → IsFine (walk_of s path after to ns w)
-fine_walk s path after to ns walking.Start = tt
-fine_walk s path after to ns (walking.Look d e) = tt
-fine_walk s path after to ns (walking.See d e) = tt
-fine_walk s path after to ns (walking.Up d j rest) = tt
-fine_walk s path after to ns (walking.UnlockInode d then_) = tt
-fine_walk s path after to ns (walking.Down d then_) = tt
-fine_walk s path after to ns (walking.Leave d e) = tt
+fine_walk : (version : Version) (s : Action) (path : List ℕ) (after : After) (to : Goal) (ns : List ℕ) (w : Walk) → IsFine (walk_of version s path after to ns w)
+fine_walk version s path after to ns walking.Start = tt
+fine_walk version s path after to ns (walking.Look d e) = tt
+fine_walk version s path after to ns (walking.See d e) = tt
+fine_walk version s path after to ns (walking.Up d j rest) = tt
+fine_walk version s path after to ns (walking.UnlockInode d then_) = tt
+fine_walk version s path after to ns (walking.Down d then_) = tt
+fine_walk version s path after to ns (walking.Leave d e) = tt
 
 fine_dropping : (k : programs.P Reply) (d : Dropping) → IsFine (dropping_of k d)
 fine_dropping k (dropping.UnlockInode n) = tt
@@ -115,60 +116,60 @@ fine_new : (path : List ℕ) (flags : ℕ) (es : List (List ℕ)) → IsFine (op
 fine_new path flags [] = tt
 fine_new path flags (e ∷ es) = tt
 
-fine_open : (path : List ℕ) (flags : ℕ) (ns : List ℕ) (c : Open) → IsFine (open_of path flags ns c)
-fine_open path flags ns opening.Join = by (creates flags)
+fine_open : (version : Version) (path : List ℕ) (flags : ℕ) (ns : List ℕ) (c : Open) → IsFine (open_of version path flags ns c)
+fine_open version path flags ns opening.Join = by (creates flags)
   where
-    by : (b : Bool) → IsFine (if b then open_new path flags (elements path) else open_old path flags)
-    by true = fine_new path flags (elements path)
+    by : (b : Bool) → IsFine (if b then open_new path flags (elements version path) else open_old version path flags)
+    by true = fine_new path flags (elements version path)
     by false = tt
-fine_open path flags ns (opening.Walks w) = fine_walk (steps.Open path flags) path (open_after path flags) (open_goal flags) ns w
-fine_open path flags ns (opening.GiveParent d n) = fine_dropping _ d
-fine_open path flags ns (opening.Claim d e) = claims
+fine_open version path flags ns (opening.Walks w) = fine_walk version (steps.Open path flags) path (open_after path flags) (open_goal flags) ns w
+fine_open version path flags ns (opening.GiveParent d n) = fine_dropping _ d
+fine_open version path flags ns (opening.Claim d e) = claims
   where
     claims : (a : above.ClaimResult) → MakesNone (mends_unless_new a)
     claims (above.New n) = tt
     claims above.NoInode = tt
     claims above.NoPlace = tt
-fine_open path flags ns (opening.GiveEntered d n inode_type) = fine_dropping _ d
-fine_open path flags ns (opening.Ends e) = fine_ending _ ns e
-fine_open path flags ns c = tt
+fine_open version path flags ns (opening.GiveEntered d n inode_type) = fine_dropping _ d
+fine_open version path flags ns (opening.Ends e) = fine_ending _ ns e
+fine_open version path flags ns c = tt
 
-fine_mkdir : (path ns : List ℕ) (c : Mkdir) → IsFine (mkdir_of path ns c)
-fine_mkdir path ns making.Join = fine_parent (calls.Mkdir path) (steps.Mkdir path) path (mkdir_in path) (elements path)
-fine_mkdir path ns (making.Walks w) = fine_walk (steps.Mkdir path) path (mkdir_after path) goal.Parent ns w
-fine_mkdir path ns (making.Claim d e f) = claims
+fine_mkdir : (version : Version) (path ns : List ℕ) (c : Mkdir) → IsFine (mkdir_of version path ns c)
+fine_mkdir version path ns making.Join = fine_parent (calls.Mkdir path) (steps.Mkdir path) path (mkdir_in path) (elements version path)
+fine_mkdir version path ns (making.Walks w) = fine_walk version (steps.Mkdir path) path (mkdir_after path) goal.Parent ns w
+fine_mkdir version path ns (making.Claim d e f) = claims
   where
     claims : (a : above.ClaimResult) → MakesNone (mends_unless_new a)
     claims (above.New n) = tt
     claims above.NoInode = tt
     claims above.NoPlace = tt
-fine_mkdir path ns (making.Ends e) = fine_ending _ ns e
-fine_mkdir path ns c = tt
+fine_mkdir version path ns (making.Ends e) = fine_ending _ ns e
+fine_mkdir version path ns c = tt
 
-fine_chdir : (path ns : List ℕ) (c : Chdir) → IsFine (chdir_of path ns c)
-fine_chdir path ns (chdir.Walks w) = fine_walk (steps.Chdir path) path (chdir_after path) goal.Inside ns w
-fine_chdir path ns (chdir.Ends e) = fine_ending _ ns e
-fine_chdir path ns c = tt
+fine_chdir : (version : Version) (path ns : List ℕ) (c : Chdir) → IsFine (chdir_of version path ns c)
+fine_chdir version path ns (chdir.Walks w) = fine_walk version (steps.Chdir path) path (chdir_after path) goal.Inside ns w
+fine_chdir version path ns (chdir.Ends e) = fine_ending _ ns e
+fine_chdir version path ns c = tt
 
-fine_unlink : (path ns : List ℕ) (c : Unlink) → IsFine (unlink_of path ns c)
-fine_unlink path ns unlink.Join = fine_parent (calls.Unlink path) (steps.Unlink path) path (unlink_whole path) (elements path)
-fine_unlink path ns (unlink.Walks w) = fine_walk (steps.Unlink path) path (unlink_after path) goal.Parent ns w
-fine_unlink path ns (unlink.GiveParent d n g) = fine_dropping _ d
-fine_unlink path ns (unlink.Ends e) = fine_ending _ ns e
-fine_unlink path ns c = tt
+fine_unlink : (version : Version) (path ns : List ℕ) (c : Unlink) → IsFine (unlink_of version path ns c)
+fine_unlink version path ns unlink.Join = fine_parent (calls.Unlink path) (steps.Unlink path) path (unlink_whole path) (elements version path)
+fine_unlink version path ns (unlink.Walks w) = fine_walk version (steps.Unlink path) path (unlink_after path) goal.Parent ns w
+fine_unlink version path ns (unlink.GiveParent d n g) = fine_dropping _ d
+fine_unlink version path ns (unlink.Ends e) = fine_ending _ ns e
+fine_unlink version path ns c = tt
 
 fine_named : (old new : List ℕ) (n : ℕ) (ns : List ℕ) (es : List (List ℕ)) → IsFine (link_name old new n ns es)
 fine_named old new n ns [] = tt
 fine_named old new n ns (e ∷ es) = tt
 
-fine_link : (old new ns : List ℕ) (c : Link) → IsFine (link_of old new ns c)
-fine_link old new ns (linking.WalksOld w) = fine_walk (steps.Find old) old (old_after old new) goal.Inside ns w
-fine_link old new ns (linking.UnlockInode n) = fine_named old new n ns (elements new)
-fine_link old new ns (linking.WalksNew w n) = fine_walk (steps.Enter new) new (new_after old new n) goal.Parent ns w
-fine_link old new ns (linking.GiveNamed d n) = fine_dropping _ d
-fine_link old new ns (linking.GiveFailed d n a) = fine_dropping _ d
-fine_link old new ns (linking.Ends e) = fine_ending _ ns e
-fine_link old new ns c = tt
+fine_link : (version : Version) (old new ns : List ℕ) (c : Link) → IsFine (link_of version old new ns c)
+fine_link version old new ns (linking.WalksOld w) = fine_walk version (steps.Find old) old (old_after version old new) goal.Inside ns w
+fine_link version old new ns (linking.UnlockInode n) = fine_named old new n ns (elements version new)
+fine_link version old new ns (linking.WalksNew w n) = fine_walk version (steps.Enter new) new (new_after old new n) goal.Parent ns w
+fine_link version old new ns (linking.GiveNamed d n) = fine_dropping _ d
+fine_link version old new ns (linking.GiveFailed d n a) = fine_dropping _ d
+fine_link version old new ns (linking.Ends e) = fine_ending _ ns e
+fine_link version old new ns c = tt
 
 fine_write : (fd : ℕ) (bytes : List ℕ) (c : Write) → IsFine (write_of fd bytes c)
 fine_write fd bytes (writing.Leave p w) = λ a. tt
@@ -193,17 +194,17 @@ fine_stat fd fstat.Look = tt
 fine_stat fd (fstat.UnlockInode n a) = tt
 fine_stat fd (fstat.Says a) = tt
 
-pub reads_or_fine : (ns : List ℕ) (w : Whole) → IsReading w ⊎ IsFine (whole_of ns w)
-reads_or_fine ns (whole.Open path flags c) = inr (fine_open path flags ns c)
-reads_or_fine ns (whole.Read fd buf reading.Lock) = inr tt
-reads_or_fine ns (whole.Read fd buf (reading.Part n offset)) = inl tt
-reads_or_fine ns (whole.Read fd buf (reading.Says count)) = inr tt
-reads_or_fine ns (whole.Write fd bytes c) = inr (fine_write fd bytes c)
-reads_or_fine ns (whole.Link old new c) = inr (fine_link old new ns c)
-reads_or_fine ns (whole.Unlink path c) = inr (fine_unlink path ns c)
-reads_or_fine ns (whole.Mkdir path c) = inr (fine_mkdir path ns c)
-reads_or_fine ns (whole.Chdir path c) = inr (fine_chdir path ns c)
-reads_or_fine ns (whole.Dup fd c) = inr (fine_dup fd c)
-reads_or_fine ns (whole.Fstat fd c) = inr (fine_stat fd c)
-reads_or_fine ns (whole.Close fd c) = inr (fine_close fd c)
-reads_or_fine ns (whole.Inherit child c) = inr (fine_inherit child c)
+pub reads_or_fine : (version : Version) (ns : List ℕ) (w : Whole) → IsReading w ⊎ IsFine (whole_of version ns w)
+reads_or_fine version ns (whole.Open path flags c) = inr (fine_open version path flags ns c)
+reads_or_fine version ns (whole.Read fd buf reading.Lock) = inr tt
+reads_or_fine version ns (whole.Read fd buf (reading.Part n offset)) = inl tt
+reads_or_fine version ns (whole.Read fd buf (reading.Says count)) = inr tt
+reads_or_fine version ns (whole.Write fd bytes c) = inr (fine_write fd bytes c)
+reads_or_fine version ns (whole.Link old new c) = inr (fine_link version old new ns c)
+reads_or_fine version ns (whole.Unlink path c) = inr (fine_unlink version path ns c)
+reads_or_fine version ns (whole.Mkdir path c) = inr (fine_mkdir version path ns c)
+reads_or_fine version ns (whole.Chdir path c) = inr (fine_chdir version path ns c)
+reads_or_fine version ns (whole.Dup fd c) = inr (fine_dup fd c)
+reads_or_fine version ns (whole.Fstat fd c) = inr (fine_stat fd c)
+reads_or_fine version ns (whole.Close fd c) = inr (fine_close fd c)
+reads_or_fine version ns (whole.Inherit child c) = inr (fine_inherit child c)

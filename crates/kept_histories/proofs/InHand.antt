@@ -4,10 +4,10 @@ use Rattle.inode_machine.proofs.Vocabulary.{Node, folder, live_directory, refl, 
 use Rattle.inode_machine.proofs.Frame.{has_inode, has_none, kept_here, two_refs, one_refs}
 use Rattle.inode_machine.specs.Exec.{changed_record, serving, counted_down, is_dead, with_count, counted_up, has_place, is_last, lock_if, locked, reserved, start_if, start_number, unlocked, up_if, walk_down_if, with_joined}
 use Rattle.inode_machine.specs.Inodes.{type_of}
-use Rattle.inode_machine.specs.VersionOne.{seen_in}
+use Rattle.inode_machine.specs.Inodes.{seen_in}
 use Rattle.inode_machine.specs.Vocabulary.{Own as OwnMove, lowest}
 use Rattle.inode_machine.specs.Marks.{Made, clear, mended, new_id, spoiled, with_left, with_made, with_noted, with_opened}
-use Rattle.inode_machine.specs.VersionOne.{go, made_by, marked, with_mark}
+use Rattle.inode_machine.specs.Marks.{go, made_by, marked, with_mark}
 use Rattle.inode_machine.specs.Rules.{Found, Held, Idle, Inv, Own, Others, own_of, view}
 use Rattle.inode_machine.specs.Theory.{Refusal, begin_call, begin_if, serving_world}
 use Rattle.inode_machine.proofs.Starts.{begun_same, inherit_begins, start_is}
@@ -18,6 +18,7 @@ use Rattle.inode_machine.specs.World.{Desk, Mark, Mine, Op, Answer, Outside, Wor
 use Rattle.inode_machine.specs.World.Mark.{Fills, Frees, Makes, Mends, Orphans, Spoils}
 use Rattle.inode_machine.specs.World.Op.{Take, UnlockInode, UpStart, Up, WalkDown, Store, Join}
 use Rattle.kept_histories.proofs.Hands.{AsksSo, Hands, after, counted, down, one, started, uncounted, up}
+use Rattle.image_versions.specs.declared.version.Version.{Version}
 
 -- Hart h has this in hand, besides its current directory. It has counted each inode up at least as often as this
 -- says, and nobody keeps one alone. What it counted up last has a name in a directory that it keeps.
@@ -165,34 +166,35 @@ mended_still h v =
     desk_still h v (mended h v) (record (v.desks h) { opening = None; left = None; full = true }) (put_same v.desks h (record (v.desks h) { opening = None; left = None; full = true })) refl refl
     (λ n. ap (λ (m : Mine). m.refs n) (put_same v.harts h (record { refs = (v.harts h).refs; walk = None; pending = None }))) (λ n e. e)
 
-mark_still : (h : ℕ) (o : Option Mark) (v : World) → Stays h v (marked h o v)
-mark_still h None v = same_still h v
-mark_still h (Some (Makes m)) v = made_still h (made_by v.all h (new_id v) (v.harts h).walk m) v
-mark_still h (Some (Frees n)) v = record { directory = refl; lender = refl; refs = λ k. refl; shared = λ k e. e }
-mark_still h (Some (Orphans n)) v = record { directory = refl; lender = refl; refs = λ k. refl; shared = λ k e. shared_put v.alone n k e }
-mark_still h (Some Fills) v = spoiled_still h v
-mark_still h (Some Mends) v = mended_still h v
-mark_still h (Some (Spoils s)) v =
-    let u : World = with_made h (made_by v.all h (new_id v) (v.harts h).walk (OwnMove s 0)) v in
-    then_ h v u (spoiled h u) (made_still h (made_by v.all h (new_id v) (v.harts h).walk (OwnMove s 0)) v) (spoiled_still h u)
+mark_still : (version : Version) (h : ℕ) (o : Option Mark) (v : World) → Stays h v (marked version h o v)
+mark_still version h None v = same_still h v
+mark_still version h (Some (Makes m)) v = made_still h (made_by version v.all h (new_id v) (v.harts h).walk m) v
+mark_still version h (Some (Frees n)) v = record { directory = refl; lender = refl; refs = λ k. refl; shared = λ k e. e }
+mark_still version h (Some (Orphans n)) v = record { directory = refl; lender = refl; refs = λ k. refl; shared = λ k e. shared_put v.alone n k e }
+mark_still version h (Some Fills) v = spoiled_still h v
+mark_still version h (Some Mends) v = mended_still h v
+mark_still version h (Some (Spoils s)) v =
+    let u : World = with_made h (made_by version v.all h (new_id v) (v.harts h).walk (OwnMove s 0)) v in
+    then_ h v u (spoiled h u) (made_still h (made_by version v.all h (new_id v) (v.harts h).walk (OwnMove s 0)) v) (spoiled_still h u)
 
 -- ---- what an operation does, before its mark
 
 -- if it ran
-record RanSo {A : Type 0} (h : ℕ) (m : A → Option Mark) (d : ExecResult A World) (a : A) (w : World) : Type 0 where
+record RanSo (version : Version) {A : Type 0} (h : ℕ) (m : A → Option Mark) (d : ExecResult A World) (a : A) (w : World) : Type 0 where
   then_is : World
   ran : d ≡ Ran a then_is
-  is : w ≡ marked h (m a) then_is
+  is : w ≡ marked version h (m a) then_is
 
-ran_so : {A : Type 0} (h : ℕ) (m : A → Option Mark) (d : ExecResult A World) (a : A) (w : World) → with_mark h m d ≡ Ran a w → RanSo h m d a w
-ran_so h m Waits a w e = absurd (let q : Waits ≡ Ran a w = e in cc)
-ran_so h m (Stops u) a w e = absurd (let q : Stops u ≡ Ran a w = e in cc)
-ran_so {A} h m (Ran b u) a w e = record { then_is = u; ran = ap (λ (z : A). Ran z u) same; is = sym (world_is e) ∙ ap (λ (z : A). marked h (m z) u) same }
+ran_so : (version : Version) {A : Type 0} (h : ℕ) (m : A → Option Mark) (d : ExecResult A World) (a : A) (w : World) → with_mark version h m d ≡ Ran a w
+    → RanSo version h m d a w
+ran_so version h m Waits a w e = absurd (let q : Waits ≡ Ran a w = e in cc)
+ran_so version h m (Stops u) a w e = absurd (let q : Stops u ≡ Ran a w = e in cc)
+ran_so version {A} h m (Ran b u) a w e = record { then_is = u; ran = ap (λ (z : A). Ran z u) same; is = sym (world_is e) ∙ ap (λ (z : A). marked version h (m z) u) same }
   where
-    answer_is : ◌≡◌ {A = ExecResult A World} (Ran b (marked h (m b) u)) (Ran a w) → b ≡ a
+    answer_is : ◌≡◌ {A = ExecResult A World} (Ran b (marked version h (m b) u)) (Ran a w) → b ≡ a
     answer_is e = cc
 
-    world_is : ◌≡◌ {A = ExecResult A World} (Ran b (marked h (m b) u)) (Ran a w) → marked h (m b) u ≡ w
+    world_is : ◌≡◌ {A = ExecResult A World} (Ran b (marked version h (m b) u)) (Ran a w) → marked version h (m b) u ≡ w
     world_is e = cc
 
     same : b ≡ a
@@ -217,25 +219,25 @@ abbrev pub HasFound : ℕ → World → Op → Type 0
 HasFound h v (Up n) = Found v.keeper v.all.nodes h n
 HasFound h v op = Unit {0}
 
-module _ (h : ℕ) (g : Hands) (v : World) (inv : Inv v) (was : HasInHand h g v) where
+module _ (version : Version) (h : ℕ) (g : Hands) (v : World) (inv : Inv v) (was : HasInHand h g v) where
   -- nothing of it changed but by the mark
-  marked_in_hand : (k : Hands) (u w : World) (o : Option Mark) → HasInHand h k u → w ≡ marked h o u → HasInHand h (record { has = k.has; last = None }) w
-  marked_in_hand k u w o has e = subst (λ (z : World). HasInHand h (record { has = k.has; last = None }) z) (sym e) (stays_in_hand h k u (marked h o u) (mark_still h o u) has)
+  marked_in_hand : (k : Hands) (u w : World) (o : Option Mark) → HasInHand h k u → w ≡ marked version h o u → HasInHand h (record { has = k.has; last = None }) w
+  marked_in_hand k u w o has e = subst (λ (z : World). HasInHand h (record { has = k.has; last = None }) z) (sym e) (stays_in_hand h k u (marked version h o u) (mark_still version h o u) has)
 
-  still_in_hand : (u w : World) (o : Option Mark) → Stays h v u → w ≡ marked h o u → HasInHand h (record { has = g.has; last = None }) w
+  still_in_hand : (u w : World) (o : Option Mark) → Stays h v u → w ≡ marked version h o u → HasInHand h (record { has = g.has; last = None }) w
   still_in_hand u w o s e = marked_in_hand (record { has = g.has; last = None }) u w o (stays_in_hand h g v u s was) e
 
   -- ---- an inode's lock
 
-  locks : {A : Type 0} (n : ℕ) (m : A → Option Mark) (b a : A) (w : World) (o : Option ℕ) → with_mark h m (lock_if h n b v (locked h n v) o) ≡ Ran a w → HasInHand h (record { has = g.has; last = None }) w
+  locks : {A : Type 0} (n : ℕ) (m : A → Option Mark) (b a : A) (w : World) (o : Option ℕ) → with_mark version h m (lock_if h n b v (locked h n v) o) ≡ Ran a w → HasInHand h (record { has = g.has; last = None }) w
   locks n m b a w (Some k) e = absurd (let q : Waits ≡ Ran a w = e in cc)
   locks {A} n m b a w None e =
-      let r = ran_so h m (Ran b (locked h n v)) a w e in
+      let r = ran_so version h m (Ran b (locked h n v)) a w e in
       still_in_hand r.then_is w (m a) (subst (Stays h v) (ran_there b a (locked h n v) r.then_is r.ran) (record { directory = refl; lender = refl; refs = λ k. refl; shared = λ k x. x })) r.is
 
-  unlocks : {A : Type 0} (n : ℕ) (b : Bool) (m : A → Option Mark) (c a : A) (w : World) → with_mark h m (Ran c (unlocked n v b)) ≡ Ran a w → HasInHand h (record { has = g.has; last = None }) w
+  unlocks : {A : Type 0} (n : ℕ) (b : Bool) (m : A → Option Mark) (c a : A) (w : World) → with_mark version h m (Ran c (unlocked n v b)) ≡ Ran a w → HasInHand h (record { has = g.has; last = None }) w
   unlocks n b m c a w e =
-      let r = ran_so h m (Ran c (unlocked n v b)) a w e in
+      let r = ran_so version h m (Ran c (unlocked n v b)) a w e in
       still_in_hand r.then_is w (m a) (subst (Stays h v) (ran_there c a (unlocked n v b) r.then_is r.ran) (by b)) r.is
     where
       by : (b : Bool) → Stays h v (unlocked n v b)
@@ -362,52 +364,53 @@ module _ (h : ℕ) (g : Hands) (v : World) (inv : Inv v) (was : HasInHand h g v)
   -- ---- each operation
 
   module _ (x : Outside) where
-    starts : (absolute : Bool) (m : Option ℕ → Option Mark) (a : Option ℕ) (w : World) (n : ℕ) → v.alone n ≡ false → (b : Bool) → with_mark h m (start_if h n v b) ≡ Ran a w → Holds h (started a (Some g)) w
+    starts : (absolute : Bool) (m : Option ℕ → Option Mark) (a : Option ℕ) (w : World) (n : ℕ) → v.alone n ≡ false → (b : Bool) → with_mark version h m (start_if h n v b) ≡ Ran a w → Holds h (started a (Some g)) w
     starts absolute m a w n shared true e =
-        let r = ran_so h m (Ran (Some n) (counted_up h n v)) a w e in
+        let r = ran_so version h m (Ran (Some n) (counted_up h n v)) a w e in
         subst (λ (o : Option ℕ). Holds h (started o (Some g)) w) (ran_answer (Some n) a (counted_up h n v) r.then_is r.ran)
         (marked_in_hand (record { has = counted n g.has; last = None }) r.then_is w (m a) (subst (HasInHand h (record { has = counted n g.has; last = None })) (ran_there (Some n) a (counted_up h n v) r.then_is r.ran) (ups n shared)) r.is)
     starts absolute m a w n shared false e =
-        let r = ran_so h m (Ran None v) a w e in
+        let r = ran_so version h m (Ran None v) a w e in
         subst (λ (o : Option ℕ). Holds h (started o (Some g)) w) (ran_answer None a v r.then_is r.ran)
         (still_in_hand r.then_is w (m a) (subst (Stays h v) (ran_there None a v r.then_is r.ran) (same_still h v)) r.is)
 
-    finds : (n : ℕ) (m : Bool → Option Mark) (a : Bool) (w : World) → Found v.keeper v.all.nodes h n → m true ≡ None → (b : Bool) → with_mark h m (up_if h n v b) ≡ Ran a w → Holds h (up n a (Some g)) w
+    finds : (n : ℕ) (m : Bool → Option Mark) (a : Bool) (w : World) → Found v.keeper v.all.nodes h n → m true ≡ None → (b : Bool) → with_mark version h m (up_if h n v b) ≡ Ran a w → Holds h (up n a (Some g)) w
     finds n m a w found none true e =
-        let r = ran_so h m (Ran true (counted_up h n v)) a w e in
+        let r = ran_so version h m (Ran true (counted_up h n v)) a w e in
         let there = ran_there true a (counted_up h n v) r.then_is r.ran in
         let same : true ≡ a = ran_answer true a (counted_up h n v) r.then_is r.ran in
-        let is : w ≡ counted_up h n v = r.is ∙ (λ i. marked h (m (sym same i)) (sym there i)) ∙ ap (λ (o : Option Mark). marked h o (counted_up h n v)) none in
+        let is : w ≡ counted_up h n v = r.is ∙ (λ i. marked version h (m (sym same i)) (sym there i))
+        ∙ ap (λ (o : Option Mark). marked version h o (counted_up h n v)) none in
         let has = ups n (found_alive n found) in
         subst (λ (o : Bool). Holds h (up n o (Some g)) w) same
         (subst (λ (z : World). HasInHand h (record { has = counted n g.has; last = Some n }) z) (sym is)
         (record { hart = has.hart; free = has.free; has = has.has; shared = has.shared; stands = λ k q. subst (λ (z : ℕ). Found v.keeper v.all.nodes h z) (let s : Some n ≡ Some k = q in cc) found }))
     finds n m a w found none false e =
-        let r = ran_so h m (Ran false v) a w e in
+        let r = ran_so version h m (Ran false v) a w e in
         subst (λ (o : Bool). Holds h (up n o (Some g)) w) (ran_answer false a v r.then_is r.ran)
         (still_in_hand r.then_is w (m a) (subst (Stays h v) (ran_there false a v r.then_is r.ran) (same_still h v)) r.is)
 
-    gives : (n : ℕ) → 1 ≤ g.has n → (m : Bool → Option Mark) (a : Bool) (w : World) (b : Bool) → is_last v n ≡ b → with_mark h m (walk_down_if h n v b) ≡ Ran a w → Holds h (down n (Some g)) w
+    gives : (n : ℕ) → 1 ≤ g.has n → (m : Bool → Option Mark) (a : Bool) (w : World) (b : Bool) → is_last v n ≡ b → with_mark version h m (walk_down_if h n v b) ≡ Ran a w → Holds h (down n (Some g)) w
     gives n low m a w true is e =
-        let r = ran_so h m (Ran true (reserved h n v)) a w e in
+        let r = ran_so version h m (Ran true (reserved h n v)) a w e in
         marked_in_hand (record { has = uncounted n g.has; last = None }) r.then_is w (m a) (subst (HasInHand h (record { has = uncounted n g.has; last = None })) (ran_there true a (reserved h n v) r.then_is r.ran) (drops n low is)) r.is
     gives n low m a w false is e =
-        let r = ran_so h m (Ran false (counted_down h n v)) a w e in
+        let r = ran_so version h m (Ran false (counted_down h n v)) a w e in
         marked_in_hand (record { has = uncounted n g.has; last = None }) r.then_is w (m a) (subst (HasInHand h (record { has = uncounted n g.has; last = None })) (ran_there false a (counted_down h n v) r.then_is r.ran) (counts n low)) r.is
 
-    pub acts_in_hand : (op : Op) (m : Answer op → Option Mark) (a : Answer op) (w : World) → HasFound h v op → AsksSo (Some g) op m → go h x op m v ≡ Ran a w → Holds h (after op a (Some g)) w
-    acts_in_hand (Take n looking) m a w found asks e = locks n m (seen_in n looking (v.disk n)) a w (v.lock n) e
+    pub acts_in_hand : (op : Op) (m : Answer op → Option Mark) (a : Answer op) (w : World) → HasFound h v op → AsksSo (Some g) op m → go version h x op m v ≡ Ran a w → Holds h (after op a (Some g)) w
+    acts_in_hand (Take n looking) m a w found asks e = locks n m (seen_in version n looking (v.disk n)) a w (v.lock n) e
     acts_in_hand (UnlockInode n) m a w found asks e = unlocks n (v.alone n) m tt a w e
     acts_in_hand (UpStart absolute) m a w found asks e = starts absolute m a w (start_number (v.desks h) absolute) (start_alive absolute) (has_place v (start_number (v.desks h) absolute)) e
     acts_in_hand (Up n) m a w found asks e = finds n m a w found asks (has_place v n) e
     acts_in_hand (WalkDown n) m a w found asks e = gives n asks m a w (is_last v n) refl e
     acts_in_hand (Store n count) m a w found asks e =
         let u : World = changed_record v n (with_count count) in
-        let r = ran_so h m (Ran tt u) a w e in
+        let r = ran_so version h m (Ran tt u) a w e in
         still_in_hand r.then_is w (m a) (subst (Stays h v) (ran_there tt a u r.then_is r.ran) (record { directory = refl; lender = refl; refs = λ k. refl; shared = λ k q. q })) r.is
     acts_in_hand Join m a w found asks e =
         let u : World = with_joined v h true in
-        let r = ran_so h m (Ran tt u) a w e in
+        let r = ran_so version h m (Ran tt u) a w e in
         still_in_hand r.then_is w (m a) (subst (Stays h v) (ran_there tt a u r.then_is r.ran) (desk_still h v u (record (v.desks h) { joined = true }) (put_same v.desks h (record (v.desks h) { joined = true })) refl refl (λ k. refl) (λ k q. q))) r.is
     acts_in_hand op m a w found asks e = tt
 
@@ -423,9 +426,9 @@ none_after (Store n count) a = refl
 none_after Join a = refl
 none_after op a = refl
 
-pub acts_so : (h : ℕ) (g : Option Hands) (v : World) → Inv v → Holds h g v → (x : Outside) (op : Op) (m : Answer op → Option Mark) (a : Answer op) (w : World) → HasFound h v op → AsksSo g op m → go h x op m v ≡ Ran a w → Holds h (after op a g) w
-acts_so h None v inv was x op m a w found asks e = subst (λ (k : Option Hands). Holds h k w) (sym (none_after op a)) tt
-acts_so h (Some g) v inv was x op m a w found asks e = acts_in_hand h g v inv was x op m a w found asks e
+pub acts_so : (version : Version) (h : ℕ) (g : Option Hands) (v : World) → Inv v → Holds h g v → (x : Outside) (op : Op) (m : Answer op → Option Mark) (a : Answer op) (w : World) → HasFound h v op → AsksSo g op m → go version h x op m v ≡ Ran a w → Holds h (after op a g) w
+acts_so version h None v inv was x op m a w found asks e = subst (λ (k : Option Hands). Holds h k w) (sym (none_after op a)) tt
+acts_so version h (Some g) v inv was x op m a w found asks e = acts_in_hand version h g v inv was x op m a w found asks e
 
 -- ---- as a call begins
 

@@ -18,14 +18,16 @@ use Rattle.whole_calls.specs.declared.reading.Read.TheVariants as reading
 use Rattle.whole_calls.specs.declared.whole.Whole.{Whole}
 use Rattle.whole_calls.specs.declared.whole.Whole.TheVariants as whole
 use Rattle.kept_histories.proofs.Heads.{IsFine, IsFineOp, reads_or_fine}
+use Rattle.image_versions.specs.declared.version.Version.{Version}
 
 -- the call's program; or the reply is all that is left of both
-abbrev pub KeptAs : programs.P Reply → Under → Type 0
-KeptAs p v = (p ≡ whole_of v.listed v.whole) ⊎ ((r q : Reply) × (p ≡ programs.say r) × (whole_of v.listed v.whole ≡ programs.say q))
+abbrev pub KeptAs : Version → programs.P Reply → Under → Type 0
+KeptAs version p v = (p ≡ whole_of version v.listed v.whole) ⊎ ((r q : Reply) × (p ≡ programs.say r) × (whole_of version v.listed v.whole ≡ programs.say q))
 
 -- so it asks for the same operation
-pub same_asked : (p : programs.P Reply) (v : Under) → KeptAs p v → (op : above.Op) → asks p ≡ Some op → asks (whole_of v.listed v.whole) ≡ Some op
-same_asked p v kept op is = elim kept [
+pub same_asked : (version : Version) (p : programs.P Reply) (v : Under) → KeptAs version p v → (op : above.Op) → asks p ≡ Some op
+    → asks (whole_of version v.listed v.whole) ≡ Some op
+same_asked version p v kept op is = elim kept [
   | inl e ↦ sym (ap asks e) ∙ is
   | inr s ↦ ap asks s.3 ∙ sym (ap asks s.2) ∙ is
 ]
@@ -39,22 +41,22 @@ pub same_heard : (op : above.Op) (m : above.Answer op → Option above.Mark) →
 same_heard (ReadFile fd n offset count) m fine text other x = absurd fine
 same_heard op m fine text other x = refl
 
-module _ (u : UnderWay) (v : Under) (x : Heard) (text : List ℕ) (a : above.Answer u.op) (is : a ≡ answer_to text u.op x)
-    (kept : KeptAs (Do u.op u.mark u.rest) v) (op : above.Op) (m : above.Answer op → Option above.Mark) (k : above.Answer op → programs.P Reply)
+module _ (version : Version) (u : UnderWay) (v : Under) (x : Heard) (text : List ℕ) (a : above.Answer u.op) (is : a ≡ answer_to text u.op x)
+    (kept : KeptAs version (Do u.op u.mark u.rest) v) (op : above.Op) (m : above.Answer op → Option above.Mark) (k : above.Answer op → programs.P Reply)
     (next : ◌≡◌ {A = programs.P Reply} (Do op m k) (u.rest a)) where
   -- so the program goes on, with whatever was in its text
   heard_in : (p : programs.P Reply) → ◌≡◌ {A = programs.P Reply} (Do u.op u.mark u.rest) p → Do op m k ≡ hears text p x
   heard_in p e = next ∙ ap u.rest is ∙ ap (λ (z : programs.P Reply). hears text z x) e
 
   -- the same operation was under way in the kept tree
-  fine_next : ◌≡◌ {A = programs.P Reply} (Do u.op u.mark u.rest) (whole_of v.listed v.whole) → IsFine (whole_of v.listed v.whole) → Do op m k ≡ hears (text_in v.whole) (whole_of v.listed v.whole) x
+  fine_next : ◌≡◌ {A = programs.P Reply} (Do u.op u.mark u.rest) (whole_of version v.listed v.whole) → IsFine (whole_of version v.listed v.whole) → Do op m k ≡ hears (text_in v.whole) (whole_of version v.listed v.whole) x
   fine_next e fine =
       let here : IsFineOp u.op u.mark = subst IsFine (sym e) fine in
       next ∙ ap u.rest (is ∙ same_heard u.op u.mark here text (text_in v.whole) x) ∙ ap (λ (z : programs.P Reply). hears (text_in v.whole) z x) e
 
   -- a read is followed by its reply
-  reads_next : (w : Whole) (ns : List ℕ) → IsReading w → ◌≡◌ {A = programs.P Reply} (Do u.op u.mark u.rest) (whole_of ns w)
-      → (r q : Reply) × (Do op m k ≡ programs.say r) × (hears (text_in w) (whole_of ns w) x ≡ programs.say q)
+  reads_next : (w : Whole) (ns : List ℕ) → IsReading w → ◌≡◌ {A = programs.P Reply} (Do u.op u.mark u.rest) (whole_of version ns w)
+      → (r q : Reply) × (Do op m k ≡ programs.say r) × (hears (text_in w) (whole_of version ns w) x ≡ programs.say q)
   reads_next (whole.Read fd buf (reading.Part n offset)) ns t e =
       (read_reply fd buf.items (take (count_in x) text), read_reply fd buf.items (take (count_in x) buf.items), heard_in _ e, refl)
   reads_next (whole.Read fd buf reading.Lock) ns t e = absurd t
@@ -71,10 +73,10 @@ module _ (u : UnderWay) (v : Under) (x : Heard) (text : List ℕ) (a : above.Ans
   reads_next (whole.Inherit child c) ns t e = absurd t
 
   -- the rest of the kept call is that too, or both are at their reply
-  kept_next : (Do op m k ≡ hears (text_in v.whole) (whole_of v.listed v.whole) x)
-      ⊎ ((r q : Reply) × (Do op m k ≡ programs.say r) × (hears (text_in v.whole) (whole_of v.listed v.whole) x ≡ programs.say q))
+  kept_next : (Do op m k ≡ hears (text_in v.whole) (whole_of version v.listed v.whole) x)
+      ⊎ ((r q : Reply) × (Do op m k ≡ programs.say r) × (hears (text_in v.whole) (whole_of version v.listed v.whole) x ≡ programs.say q))
   kept_next = elim kept [
-    | inl e ↦ elim (reads_or_fine v.listed v.whole) [
+    | inl e ↦ elim (reads_or_fine version v.listed v.whole) [
       | inl reads ↦ inr (reads_next v.whole v.listed reads e)
       | inr fine ↦ inl (fine_next e fine)
     ]
@@ -84,10 +86,10 @@ module _ (u : UnderWay) (v : Under) (x : Heard) (text : List ℕ) (a : above.Ans
   pub record HeardOn (o : Option Under) : Type 0 where
     pub then_ : Under
     pub found : o ≡ Some then_
-    pub goes : GoesOn v x then_
-    pub follows : KeptAs (Do op m k) then_
+    pub goes : GoesOn version v x then_
+    pub follows : KeptAs version (Do op m k) then_
 
-  heard_on : (w : Under) → GoesOn v x w → HeardOn (Some w)
+  heard_on : (w : Under) → GoesOn version v x w → HeardOn (Some w)
   heard_on w g = record {
     then_ = w;
     found = refl;
@@ -99,7 +101,7 @@ module _ (u : UnderWay) (v : Under) (x : Heard) (text : List ℕ) (a : above.Ans
   }
 
   -- As the operation under way is answered with what was heard, and the next one begins, so does the kept call.
-  pub hears_on : (o : Option Under) → HearsSo v x o → (ReadsTooMuch x v.whole → ⊥) → HeardOn o
+  pub hears_on : (o : Option Under) → HearsSo version v x o → (ReadsTooMuch x v.whole → ⊥) → HeardOn o
   hears_on (Some w) g room = heard_on w g
   hears_on None (inl much) room = absurd (room much)
   hears_on None (inr r) room = elim kept_next [

@@ -14,9 +14,9 @@ use Rattle.hart_core.specs.Harts.{AreIdle, HartsOf}
 use Rattle.hart_core.specs.Worlds.{calls_of}
 use Rattle.hart_core.specs.declared.events.Came.{Came}
 use Rattle.hart_core.specs.declared.events.Event.{Event as HartEvent}
-use Rattle.image_tree.specs.VersionOne.{tree_in}
+use Rattle.image_tree.specs.Images.{tree_in}
 use Rattle.inode_machine.specs.Kept.{nothing_yet}
-use Rattle.inode_machine.specs.VersionOne.{kept}
+use Rattle.inode_machine.specs.Kept.{kept}
 use Rattle.plain_tree.specs.Tree.{tree_of}
 use Rattle.plain_tree.specs.TreeData.{TreeData}
 use Rattle.plain_tree.specs.declared.call.Call.{Call}
@@ -37,6 +37,7 @@ use Rattle.kept_histories.proofs.Prefixes.{clean_at, idle_at, moves_at, so_far}
 use Rattle.kept_histories.proofs.ShownFirst.{sees_rightly}
 use Rattle.kept_histories.proofs.Together.{HartAt}
 use Rattle.kept_histories.proofs.Basics.{longer}
+use Rattle.fs_layout.specs.Recovered.{version_in}
 
 -- ---- each event
 
@@ -51,7 +52,7 @@ module _ (disk : List (List ℕ)) (count : ℕ) (events : List (Event Call Outsi
   abbrev at : List (Event Call Outside) → State L
   at es = so_far disk count es
 
-  begins : RunsFrom (block_moves (sizes_of disk)) (tree_in disk) (first disk count) events
+  begins : RunsFrom (version_in disk) (block_moves (sizes_of disk)) (tree_in disk) (first disk count) events
   begins = runs_from disk count events runs
 
   free : (r : Option (Run L)) (u : Option UnderWay) → Fits sizes r u → u ≡ None → r ≡ None
@@ -104,34 +105,36 @@ none_in (suc n) (suc h) = none_in n h
 module _ {D : Type 0} (contents : D → List (List ℕ)) (failures : D → ℕ) (sizes : Super) (start : (block_calls sizes).M.World) (base : TreeData) (w : HartsOf D)
     (under : ℕ → Option UnderWay) (none : (h : ℕ) → under h ≡ None) (code : erase (block_calls sizes) (block_code sizes) (fresh (block_calls sizes) start) ≡ calls_of contents failures sizes w)
     (idle : AreIdle w.calls) (opens : (block_moves sizes).tree start ≡ record { tree = tree_of base; walk = λ h. None }) where
-  pub agrees_first : Agrees contents failures sizes (fresh (block_calls sizes) start) nothing_yet w (nothing_kept base) under
+  pub agrees_first : Agrees contents failures sizes (fresh (block_calls sizes) start) nothing_yet w (nothing_kept sizes.version base) under
   agrees_first = record {
     code = code;
     harts = λ h.
-        subst (λ (z : Option UnderWay). HartAt sizes z (get_or w.calls h None) (hart_in (nothing_kept base) h)) (sym (none h))
-        (subst (λ (z : Option Running). HartAt sizes None z (hart_in (nothing_kept base) h)) (sym (ap (λ (z : List (Option Running)). get_or z h None) idle ∙ none_in hart_count h))
+        subst (λ (z : Option UnderWay). HartAt sizes z (get_or w.calls h None) (hart_in (nothing_kept sizes.version base) h)) (sym (none h))
+        (subst (λ (z : Option Running). HartAt sizes None z (hart_in (nothing_kept sizes.version base) h)) (sym (ap (λ (z : List (Option Running)). get_or z h None) idle ∙ none_in hart_count h))
         (subst (λ (z : Option Under). HartAt sizes None None z) (sym (none_in hart_count h)) tt));
     stage = (λ i. record { tree = tree_of base; walk = λ h. stage_none i h }) ∙ sym opens;
-    book = book_none base;
+    book = book_none sizes.version base;
     room = refl;
+    version = refl;
   }
     where
-      stage_none : (stage_of (nothing_kept base)).walk ≡ (λ h. None)
-      stage_none = λ i h. ap walk_under (none_in {A = Under} hart_count h) i
+      stage_none : (stage_of (nothing_kept sizes.version base)).walk ≡ (λ h. None)
+      stage_none = λ i h. ap (walk_under sizes.version) (none_in {A = Under} hart_count h) i
 
 -- ---- the run
 
 module _ {D : Type 0} (contents : D → List (List ℕ)) (failures : D → ℕ) (disk : List (List ℕ)) (count : ℕ) (base : TreeData) (w : HartsOf D)
-    (es : List HartEvent) (cs : List Came) (new : HartsOf D) (k : KeptTree) (r : KeepsRun contents failures (sizes_of disk) w (nothing_kept base) es cs new k) where
+    (es : List HartEvent) (cs : List Came) (new : HartsOf D) (k : KeptTree)
+    (r : KeepsRun contents failures (sizes_of disk) w (nothing_kept (version_in disk) base) es cs new k) where
   abbrev pub history : List (Event Call Outside)
-  history = history_in contents failures (sizes_of disk) es cs w new (nothing_kept base) k r
+  history = history_in contents failures (sizes_of disk) es cs w new (nothing_kept (version_in disk) base) k r
 
   -- What is kept agrees with the theory at its end.
   pub kept_agrees : (runs : RunsOn disk count history) (goes : GoesOnAsItActs (sizes_of disk) (first disk count) history) → StepsPlaceInTime
       → erase (block_calls (sizes_of disk)) (block_code (sizes_of disk)) (fresh (block_calls (sizes_of disk)) (first disk count)) ≡ calls_of contents failures (sizes_of disk) w → AreIdle w.calls
       → (block_moves (sizes_of disk)).tree (first disk count) ≡ record { tree = tree_of base; walk = λ h. None } → length es < 2 ^ 64
-      → (m : ℕ) × AgreesAt contents failures (sizes_of disk) goes.under m (so_far disk count history) (kept (block_moves (sizes_of disk)) history (fresh (block_calls (sizes_of disk)) (first disk count)) nothing_yet) new k
+      → (m : ℕ) × AgreesAt contents failures (sizes_of disk) goes.under m (so_far disk count history) (kept (version_in disk) (block_moves (sizes_of disk)) history (fresh (block_calls (sizes_of disk)) (first disk count)) nothing_yet) new k
   kept_agrees runs goes in_time code idle opens few =
-      run_agrees contents failures (sizes_of disk) goes.under in_time es cs 0 (fresh (block_calls (sizes_of disk)) (first disk count)) nothing_yet w new (nothing_kept base) k r
+      run_agrees contents failures (sizes_of disk) goes.under in_time es cs 0 (fresh (block_calls (sizes_of disk)) (first disk count)) nothing_yet w new (nothing_kept (version_in disk) base) k r
       (record { agrees = agrees_first contents failures (sizes_of disk) (first disk count) base w (goes.under 0) goes.none_yet code idle opens; counted = counted_first })
       (known_all disk count history runs goes) (omega (arith, few))

@@ -18,7 +18,7 @@ use Rattle.hart_core.specs.Telling.{some_lacks_place}
 use Rattle.hart_core.specs.Worlds.{WorldOf}
 use Rattle.hart_core.specs.declared.events.Came.{Came}
 use Rattle.hart_core.specs.declared.events.Event.{Event as HartEvent}
-use Rattle.image_tree.specs.VersionOne.{tree_in}
+use Rattle.image_tree.specs.Images.{tree_in}
 use Rattle.inode_machine.specs.Kept.{nothing_yet}
 use Rattle.path_walk.specs.declared.asks.Heard.{Heard}
 use Rattle.plain_tree.specs.Tree.{tree_of}
@@ -56,16 +56,17 @@ module _ {D : Type 0} (contents : D → List (List ℕ)) (failures : D → ℕ) 
   base = tree_in (contents device)
 
   module _ (last : Option Heard) (events : List HartEvent) (cs : List Came) (new : HartsOf D) (k : KeptTree)
-      (r : KeepsRun contents failures (sizes_of (contents w.core.log.cache.device)) w (nothing_kept (tree_in (contents device))) events cs new k) where
+      (r : KeepsRun contents failures (sizes_of (contents w.core.log.cache.device)) w
+      (nothing_kept (sizes_of (contents w.core.log.cache.device)).version (tree_in (contents device))) events cs new k) where
     abbrev world : WorldOf D
     world = record { harts = w; sizes = sizes; last = last }
 
     -- the history that the keeper noted
     abbrev told : List (Event Call Outside)
-    told = history_in contents failures sizes events cs w new (nothing_kept base) k r
+    told = history_in contents failures sizes events cs w new (nothing_kept sizes.version base) k r
 
     is : IsHistory contents failures sizes w events cs new told
-    is = is_history contents failures sizes events cs w new (nothing_kept base) k r
+    is = is_history contents failures sizes events cs w new (nothing_kept sizes.version base) k r
 
     may : IsMountable disk
     may = mountable contents failures device w rests
@@ -82,8 +83,8 @@ module _ {D : Type 0} (contents : D → List (List ℕ)) (failures : D → ℕ) 
 
     opens : (block_moves sizes).tree (first disk count) ≡ record { tree = tree_of base; walk = λ h. None }
     opens =
-        let begins : RunsFrom (block_moves sizes) (tree_in disk) (first disk count) [] = runs_from disk count [] nothing_ran in
-        let m : IsMoving (block_moves sizes) = moving sizes in
+        let begins : RunsFrom sizes.version (block_moves sizes) (tree_in disk) (first disk count) [] = runs_from disk count [] nothing_ran in
+        let m : IsMoving sizes.version (block_moves sizes) = moving sizes in
         let tree = begins.tree ∙ ap tree_of rests.disk.tree in
         λ i. record { tree = tree i; walk = λ h. m.rests h (first disk count) (begins.idle h) i }
 
@@ -98,7 +99,8 @@ module _ {D : Type 0} (contents : D → List (List ℕ)) (failures : D → ℕ) 
     -- how it ends
     ends : length events < 2 ^ 64 → EndsWithRoom disk count told honest goes nothing_ran contents failures new k ⊎ EndsShort disk count told honest goes nothing_ran contents failures new k
     ends few =
-        run_ends disk count told honest goes nothing_ran contents failures steps_place_in_time [] events cs nothing_yet w new (nothing_kept base) k r refl refl
+        run_ends disk count told honest goes nothing_ran contents failures steps_place_in_time [] events cs nothing_yet w new
+        (nothing_kept sizes.version base) k r refl refl
         (λ h u under. none_under h u under) (none_gives (goes.under 0) goes.none_yet)
         (record { agrees = agrees_first contents failures sizes (first disk count) base w (goes.under 0) goes.none_yet (rests_erased contents failures device w rests) rests.idle opens; counted = counted_first })
         (omega (arith, few))
@@ -108,7 +110,7 @@ module _ {D : Type 0} (contents : D → List (List ℕ)) (failures : D → ℕ) 
 
     -- what the harts have in hand goes with the state
     harts : AreHarts (shared_of contents failures new) new.calls
-    harts = harts_at_end contents failures sizes events cs w new (nothing_kept base) k r (idle_harts contents failures w rests.idle)
+    harts = harts_at_end contents failures sizes events cs w new (nothing_kept sizes.version base) k r (idle_harts contents failures w rests.idle)
 
     -- each step found room exactly if the keeper knows of none that didn't
     told_room : length events < 2 ^ 64 → FoundRoom contents failures world told ↔ ((ended (some_lacks_place new) k).full ≡ false)
@@ -138,7 +140,7 @@ module _ {D : Type 0} (contents : D → List (List ℕ)) (failures : D → ℕ) 
   -- the law, of a world with these sizes
   abbrev Law : (device : D) (events : List HartEvent) (cs : List Came) (new : HartsOf D) (k : KeptTree) (history : List (Event Call Outside)) → WorldOf D → Type 0
   Law device events cs new k history z =
-      KeepsRun contents failures z.sizes z.harts (nothing_kept (tree_in (contents device))) events cs new k
+      KeepsRun contents failures z.sizes z.harts (nothing_kept z.sizes.version (tree_in (contents device))) events cs new k
       → IsHistory contents failures z.sizes z.harts events cs new history → length events < 2 ^ 64
       → (FoundRoom contents failures z history ↔ ((ended (some_lacks_place new) k).full ≡ false))
       × (FoundRoom contents failures z history → k.list ≡ list_of contents failures z history)

@@ -34,7 +34,7 @@ use Rattle.inode_parts.specs.InodeParts.{ends_with, part_left}
 use Rattle.inode_parts.specs.OneSteps.{joining_heard, loan_heard, step_left}
 use Rattle.inode_parts.specs.Parts.{Part}
 use Rattle.inode_parts.specs.Relocks.{relock_left}
-use Rattle.inode_parts.specs.Takes.{listed_ends, looked, named_ends, take_left}
+use Rattle.inode_parts.specs.Takes.{listed_ends, looked, named_ends, only_seen, take_left}
 use Rattle.inode_parts.specs.Telling.{finds_no_place, gives_back, lacks_place, part_of}
 use Rattle.inode_parts.specs.UnderWay.{LongAmid, UnderWay as IsUnderWay}
 use Rattle.inode_parts.specs.declared.lowered.Lowered.{Lowered}
@@ -85,6 +85,7 @@ use Rattle.inode_parts.specs.Vocabulary.{Entry, Named, NoBlock, NoSlot, Room, Th
 use Rattle.kept_histories.proofs.Claiming.{GivesBack, GivesBackOf}
 use Rattle.kept_histories.proofs.Controls.{at_end, plain_end}
 use Rattle.kept_histories.proofs.Standing.{StandsAt, handed}
+use Rattle.image_versions.specs.declared.version.Version.{Version}
 
 -- ---- what is heard at a part's end
 
@@ -142,26 +143,26 @@ stat_else : (path : List ℕ) (c : Carry) (a : LockedState) → IsElse (stat_end
 stat_else path c (Refuses why) = (refl, tt)
 stat_else path c (Locks f content) = (refl, tt)
 
-looked_else : (path : List ℕ) (q : Query) (c : Carry) (n : ℕ) (l : Loaded) → IsElse (looked path q c n l)
-looked_else path query.Nothing c n l = (refl, tt)
-looked_else path (query.Name e) c n l = bound_else (lookup (name_in path e) l) (named_ends path c n l e) (λ o. (refl, tt))
-looked_else path query.Entries c n l = bound_else (entries l) (listed_ends path c n l) (λ o. (refl, tt))
+looked_else : (version : Version) (path : List ℕ) (q : Query) (c : Carry) (n : ℕ) (l : Loaded) → IsElse (looked version path q c n l)
+looked_else version path query.Nothing c n l = (refl, tt)
+looked_else version path (query.Name e) c n l = bound_else (lookup version (name_in path e) l) (named_ends path c n l e) (λ o. (refl, tt))
+looked_else version path query.Entries c n l = bound_else (entries version l) (listed_ends path c n l) (λ o. (refl, tt))
 
 take_else : (path : List ℕ) (m : Notes) (p : TakePart) (h : Hand) → NextElse (take_left path m p h)
-take_else path m (take.Locking q r) h =
+take_else path m (take.Locking version q r) h =
     let c = beside_in path m (lock_seat r) h in
     let n = number_at (lock_seat r) h in
-    next_else (lock_left r h) (looked path q c n) (looked_else path q c n)
-take_else path m (take.Naming k e s) h =
-    next_else (search_left (Named (name_in path e)) k s h) (named_ends path (beside_in path m k h) (number_at k h) (loaded_in k h) e) (λ o. (refl, tt))
-take_else path m (take.Listing k s) h =
-    next_else (search_left Entry k s h) (listed_ends path (beside_in path m k h) (number_at k h) (loaded_in k h)) (λ o. (refl, tt))
+    next_else (lock_left r h) (looked version path q c n) (looked_else version path q c n)
+take_else path m (take.Naming version k e s) h =
+    next_else (search_left version (Named (name_in path e)) k s h) (named_ends path (beside_in path m k h) (number_at k h) (loaded_in k h) e) (λ o. (refl, tt))
+take_else path m (take.Listing version k s) h =
+    next_else (search_left version Entry k s h) (listed_ends path (beside_in path m k h) (number_at k h) (loaded_in k h)) (λ o. (refl, tt))
 
 relock_else : (path : List ℕ) (m : Notes) (p : RelockPart) (h : Hand) → NextElse (relock_left path m p h)
 relock_else path m (relock.Locking k inodestart) h =
-    next_else (lock_loaded inodestart (first_listed h)) (looked path query.Nothing (beside_in path m k h) (first_listed h)) (λ d. (refl, tt))
+    next_else (lock_loaded inodestart (first_listed h)) (only_seen path (beside_in path m k h) (first_listed h)) (λ d. (refl, tt))
 relock_else path m (relock.Loading r) h =
-    next_else (lock_left r h) (looked path query.Nothing (beside_in path m (lock_seat r) h) (number_at (lock_seat r) h)) (λ d. (refl, tt))
+    next_else (lock_left r h) (only_seen path (beside_in path m (lock_seat r) h) (number_at (lock_seat r) h)) (λ d. (refl, tt))
 
 read_else : (path : List ℕ) (p : ReadFilePart) (h : Hand) → NextElse (read_file_left path p h)
 read_else path (reads.Reading f p) h = next_else (read_left (record_in f.seat h) path p h) (read_over f h) (λ m. (tt, λ a. refl))
@@ -252,8 +253,8 @@ module _ (s : whole.InodeType) where
   next_answers_else (Do o m k) next = λ a. answers_else (k a) (next a)
 
 -- A claim that gives its block back is such a part in code.
-pub gives_lacks : (u : UnderWay) (l : Lowered) (h : Hand) → StandsAt u l h → GivesBackOf u.op u.left → lacks_place l ≡ true
-gives_lacks u l h stands gives = by u.op u.left stands.part gives (part_else (text_in l.call) l.notes l.part h)
+pub gives_lacks : (version : Version) (u : UnderWay) (l : Lowered) (h : Hand) → StandsAt version u l h → GivesBackOf u.op u.left → lacks_place l ≡ true
+gives_lacks version u l h stands gives = by u.op u.left stands.part gives (part_else (text_in l.call) l.notes l.part h)
   where
     by : (op : above.Op) (left : P (Handover (above.Answer op) Carry)) → plain left ≡ bind (part_of l h) (λ r. Ret (handed op r)) → GivesBackOf op left
         → (lacks_place l ≡ true) ⊎ NextElse (part_of l h) → lacks_place l ≡ true
@@ -286,27 +287,30 @@ lacks_next l h lacks = part_gives (text_in l.call) l.notes l.part h lacks
 abbrev pub Claims : above.Op → Type 0
 Claims op = (s : whole.InodeType) × (op ≡ above.Claim s)
 
-part_claims : (path : List ℕ) (op : above.Op) (start : Having) (q : InodePart) (now : Having) → finds_no_place q ≡ true → IsUnderWay path op start q now → Claims op
-part_claims path op start (part.Claim p) now e under = by op under.0
+part_claims : (version : Version) (path : List ℕ) (op : above.Op) (start : Having) (q : InodePart) (now : Having) → finds_no_place q ≡ true
+    → IsUnderWay version path op start q now → Claims op
+part_claims version path op start (part.Claim p) now e under = by op under.0
   where
-    by : (op : above.Op) → LongAmid path op start.hand (part.Claim p) now.hand → Claims op
+    by : (op : above.Op) → LongAmid version path op start.hand (part.Claim p) now.hand → Claims op
     by (above.Claim s) a = (s, refl)
     by op a = absurd a
-part_claims path op start q now e under = absurd cc
+part_claims version path op start q now e under = absurd cc
 
 -- the call asks to claim, whatever text it has by then
-claim_with : (ns : List ℕ) (w : Whole) (text : List ℕ) (s : whole.InodeType) → asks (whole_of ns w) ≡ Some (above.Claim s) → asks (whole_with ns w text) ≡ Some (above.Claim s)
-claim_with ns (wholes.Read fd buf (reading.Part n offset)) text s e = absurd cc
-claim_with ns (wholes.Read fd buf reading.Lock) text s e = e
-claim_with ns (wholes.Read fd buf (reading.Says count)) text s e = e
-claim_with ns w text s e = e
+claim_with : (version : Version) (ns : List ℕ) (w : Whole) (text : List ℕ) (s : whole.InodeType) → asks (whole_of version ns w) ≡ Some (above.Claim s) → asks (whole_with version ns w text) ≡ Some (above.Claim s)
+claim_with version ns (wholes.Read fd buf (reading.Part n offset)) text s e = absurd cc
+claim_with version ns (wholes.Read fd buf reading.Lock) text s e = e
+claim_with version ns (wholes.Read fd buf (reading.Says count)) text s e = e
+claim_with version ns w text s e = e
 
 -- so the operation under way is a claim
-pub lacks_claims : (u : UnderWay) (l : Lowered) (h : Hand) → StandsAt u l h → LoweredReady l h → lacks_place l ≡ true → Claims u.op
-lacks_claims u l h stands ready lacks =
-    let claims = part_claims (text_in l.call) ready.way.op ready.way.start l.part _ lacks ready.way.under in
-    let asked : asks (whole_of l.list l.call) ≡ Some (above.Claim claims.0) = ready.way.asked ∙ ap Some claims.1 in
-    (claims.0, Some-inj u.op (above.Claim claims.0) (ap asks stands.program ∙ claim_with l.list l.call stands.text claims.0 asked))
+pub lacks_claims : (sizes : Super) (u : UnderWay) (l : Lowered) (h : Hand) → l.sizes ≡ sizes → StandsAt sizes.version u l h → LoweredReady l h → lacks_place l ≡ true
+    → Claims u.op
+lacks_claims sizes u l h sized stands ready lacks =
+    let claims = part_claims l.sizes.version (text_in l.call) ready.way.op ready.way.start l.part _ lacks ready.way.under in
+    let asked : asks (whole_of sizes.version l.list l.call) ≡ Some (above.Claim claims.0) =
+    subst (λ (s : Super). asks (whole_of s.version l.list l.call) ≡ Some (above.Claim claims.0)) sized (ready.way.asked ∙ ap Some claims.1) in
+    (claims.0, Some-inj u.op (above.Claim claims.0) (ap asks stands.program ∙ claim_with sizes.version l.list l.call stands.text claims.0 asked))
 
 -- the rest of it, but for the marks
 abbrev pub GivesBackPlainly : (op : above.Op) → P (Handover (above.Answer op) Carry) → Type 0
@@ -314,8 +318,9 @@ GivesBackPlainly (above.Claim s) left = (block : ℕ) × (carry : Carry)
     × (plain left ≡ Do (steps.Put block None) unmarked (λ _. Ret (record { answer = above.NoPlace; carry = carry })))
 GivesBackPlainly op left = ⊥
 
-pub lacks_gives_plainly : (u : UnderWay) (l : Lowered) (h : Hand) → StandsAt u l h → LoweredReady l h → lacks_place l ≡ true → GivesBackPlainly u.op u.left
-lacks_gives_plainly u l h stands ready lacks = by u.op u.left (lacks_claims u l h stands ready lacks) stands.part
+pub lacks_gives_plainly : (sizes : Super) (u : UnderWay) (l : Lowered) (h : Hand) → l.sizes ≡ sizes → StandsAt sizes.version u l h → LoweredReady l h
+    → lacks_place l ≡ true → GivesBackPlainly u.op u.left
+lacks_gives_plainly sizes u l h sized stands ready lacks = by u.op u.left (lacks_claims sizes u l h sized stands ready lacks) stands.part
   where
     by : (op : above.Op) (left : P (Handover (above.Answer op) Carry)) → Claims op → plain left ≡ bind (part_of l h) (λ r. Ret (handed op r)) → GivesBackPlainly op left
     by (above.Claim s) left claims is =
@@ -380,9 +385,9 @@ gives_so (Do (steps.Put d None) m k) b c e silent =
 gives_so (Do o m k) b c e silent = absurd (let q : Some o ≡ Some (steps.Put b None) = ap asks_below e in cc)
 
 -- Such a part in code is that of a claim that gives its block back, if the rest of it is what its steps led to.
-pub lacks_gives : (sizes : Super) (u : UnderWay) (l : Lowered) (h : Hand) → LeadTo (handlers sizes u.hand u.op u.mark) u.ran u.left → StandsAt u l h → LoweredReady l h
-    → lacks_place l ≡ true → GivesBackOf u.op u.left
-lacks_gives sizes u l h leads stands ready lacks = by u.op u.mark u.left leads (lacks_gives_plainly u l h stands ready lacks)
+pub lacks_gives : (sizes : Super) (u : UnderWay) (l : Lowered) (h : Hand) → LeadTo (handlers sizes u.hand u.op u.mark) u.ran u.left → l.sizes ≡ sizes
+    → StandsAt sizes.version u l h → LoweredReady l h → lacks_place l ≡ true → GivesBackOf u.op u.left
+lacks_gives sizes u l h leads sized stands ready lacks = by u.op u.mark u.left leads (lacks_gives_plainly sizes u l h sized stands ready lacks)
   where
     by : (op : above.Op) (m : above.Answer op → Option above.Mark) (left : P (Handover (above.Answer op) Carry)) → LeadTo (handlers sizes u.hand op m) u.ran left → GivesBackPlainly op left
         → GivesBackOf op left

@@ -46,16 +46,17 @@ use Rattle.kept_histories.specs.Keeps.{KeepsEvent, KeepsRun, Passes, Replies}
 use Rattle.kept_histories.proofs.Agreeing.{other_call}
 use Rattle.kept_histories.proofs.Amid.{are_amid}
 use Rattle.kept_histories.proofs.Controls.{at_end, same_end}
-use Rattle.kept_histories.proofs.Marks.{calls_stay, or_true, spoils_none, spoils_so}
+use Rattle.kept_histories.proofs.Marks.{calls_stay, or_true, spoils_none, spoils_so, version_stays}
 use Rattle.kept_histories.proofs.Together.{StillCalled, still_called}
 use Rattle.kept_histories.proofs.Lacking.{lacks_next}
+use Rattle.image_versions.specs.declared.version.Version.{Version}
 
 -- A hart's call is just after such a claim, in code and in the kept tree.
-pub record Lacks (m : Running) (v : Under) : Type 0 where
+pub record Lacks (version : Version) (m : Running) (v : Under) : Type 0 where
   pub code : lacks_place m.control ≡ true
-  pub op : (t : InodeType) × (asks (whole_of v.listed v.whole) ≡ Some (above.Claim t))
-  pub fits : WholeFits v.listed v.whole
-  pub spoils : spoils (mark_at (whole_of v.listed v.whole) (heard.Claimed claimed.NoPlace)) ≡ true
+  pub op : (t : InodeType) × (asks (whole_of version v.listed v.whole) ≡ Some (above.Claim t))
+  pub fits : WholeFits version v.listed v.whole
+  pub spoils : spoils (mark_at (whole_of version v.listed v.whole) (heard.Claimed claimed.NoPlace)) ≡ true
 
 pub record SomeLacks {D : Type 0} (w : HartsOf D) (k : KeptTree) : Type 0 where
   pub hart : ℕ
@@ -63,15 +64,15 @@ pub record SomeLacks {D : Type 0} (w : HartsOf D) (k : KeptTree) : Type 0 where
   pub call : Under
   pub code : get_or w.calls hart None ≡ Some machine
   pub kept : hart_in k hart ≡ Some call
-  pub lacks : Lacks machine call
+  pub lacks : Lacks k.version machine call
 
 -- it is so wherever the call walks
-lacks_still : (m n : Running) (v w : Under) → n.control ≡ m.control → walking None w ≡ walking None v → Lacks m v → Lacks n w
-lacks_still m n v w control same l = record {
+lacks_still : (version : Version) (m n : Running) (v w : Under) → n.control ≡ m.control → walking None w ≡ walking None v → Lacks version m v → Lacks version n w
+lacks_still version m n v w control same l = record {
   code = ap lacks_place control ∙ l.code;
-  op = (l.op.0, ap (λ (z : Under). asks (whole_of z.listed z.whole)) same ∙ l.op.1);
-  fits = subst (λ (z : Under). WholeFits z.listed z.whole) (sym same) l.fits;
-  spoils = ap (λ (z : Under). spoils (mark_at (whole_of z.listed z.whole) (heard.Claimed claimed.NoPlace))) same ∙ l.spoils;
+  op = (l.op.0, ap (λ (z : Under). asks (whole_of version z.listed z.whole)) same ∙ l.op.1);
+  fits = subst (λ (z : Under). WholeFits version z.listed z.whole) (sym same) l.fits;
+  spoils = ap (λ (z : Under). spoils (mark_at (whole_of version z.listed z.whole) (heard.Claimed claimed.NoPlace))) same ∙ l.spoils;
 }
 
 -- ---- in code alone
@@ -185,6 +186,25 @@ moved_full k h (Some m) k' moves full = moves.grows full
 ran_full : (k : KeptTree) (h : ℕ) (x : Option Heard) (k' : KeptTree) → HasRun k h x k' → k.full ≡ true → k'.full ≡ true
 ran_full k h x k' r full = ap (λ (z : KeptTree). z.full) r.hears.kept ∙ moved_full k h r.marked r.between r.moves full
 
+-- the version stays
+ran_version : (k : KeptTree) (h : ℕ) (x : Option Heard) (k' : KeptTree) → HasRun k h x k' → k'.version ≡ k.version
+ran_version k h x k' r = ap (λ (z : KeptTree). z.version) r.hears.kept ∙ version_stays k h r.marked r.between r.moves
+
+passed_version : (k k' : KeptTree) → Passes k k' → k'.version ≡ k.version
+passed_version k k' p = ap (λ (z : KeptTree). z.version) p.kept
+
+same_version : (k : KeptTree) (e : HartEvent) (c : Came) (x : Option Heard) (k' : KeptTree) → StartsFaultless e c → KeepsEvent k e c x k' → k'.version ≡ k.version
+same_version k (event.Start h call) came.Started x k' right p = ap (λ (z : KeptTree). z.version) (p right).kept.kept
+same_version k (event.Start h call) (came.Refused why) x k' right p = passed_version k k' p
+same_version k (event.Start h call) (came.Stepped out) x k' right p = passed_version k k' p
+same_version k (event.Step h) came.Started x k' right p = passed_version k k' p
+same_version k (event.Step h) (came.Refused why) x k' right p = passed_version k k' p
+same_version k (event.Step h) (came.Stepped outcome.Idle) x k' right p = passed_version k k' p
+same_version k (event.Step h) (came.Stepped outcome.Waits) x k' right p = passed_version k k' p
+same_version k (event.Step h) (came.Stepped (outcome.Ran kind)) x k' right p = passed_version p.amid k' p.ends ∙ ran_version k h x p.amid p.runs
+same_version k (event.Step h) (came.Stepped (outcome.Done reply)) x k' right p = ap (λ (z : KeptTree). z.version) p.ends.kept ∙ ran_version k h x p.amid p.runs
+same_version k (event.Step h) (came.Stepped (outcome.Stopped why)) x k' right p = passed_version k k' p
+
 -- Want of room that is known stays known.
 pub stays_full : (k : KeptTree) (e : HartEvent) (c : Came) (x : Option Heard) (k' : KeptTree) → StartsFaultless e c → KeepsEvent k e c x k' → k.full ≡ true → k'.full ≡ true
 stays_full k (event.Start h call) came.Started x k' right p full = ap (λ (z : KeptTree). z.full) (p right).kept.kept ∙ full
@@ -208,16 +228,16 @@ told_so l h answer out k g lacks amid tells =
     ends_so l h answer out k g (steps.Put next.0 None) (record { answer = (next.1, heard.Claimed claimed.NoPlace); carry = next.2 }) next.3 amid tells
 
 -- .. and in what is kept
-heard_full : (k : KeptTree) (h : ℕ) (k' : KeptTree) (m : Running) (v : Under) → hart_in k h ≡ Some v → Lacks m v → HasRun k h (Some (heard.Claimed claimed.NoPlace)) k' → k'.full ≡ true
+heard_full : (k : KeptTree) (h : ℕ) (k' : KeptTree) (m : Running) (v : Under) → hart_in k h ≡ Some v → Lacks k.version m v → HasRun k h (Some (heard.Claimed claimed.NoPlace)) k' → k'.full ≡ true
 heard_full k h k' m v is l r =
     ap (λ (z : KeptTree). z.full) r.hears.kept
     ∙ spoiled_full k h (action_in v.whole) r.marked r.between
     (sym (ap spoils (at v.has_begun (marks v.listed (above.Claim l.op.0) l.fits l.op.1) v.listed)) ∙ l.spoils) r.moves
   where
-    marks : MarksBy (tree_of k.tree) (Some v) (Some (heard.Claimed claimed.NoPlace)) r.marked
-    marks = subst (λ (z : Option Under). MarksBy (tree_of k.tree) z (Some (heard.Claimed claimed.NoPlace)) r.marked) is r.marks
+    marks : MarksBy k.version (tree_of k.tree) (Some v) (Some (heard.Claimed claimed.NoPlace)) r.marked
+    marks = subst (λ (z : Option Under). MarksBy k.version (tree_of k.tree) z (Some (heard.Claimed claimed.NoPlace)) r.marked) is r.marks
 
-    at : (begun : Bool) → MarksIn (tree_of k.tree) v (Some (above.Claim l.op.0)) false begun (Some (heard.Claimed claimed.NoPlace)) r.marked → MarksAt v (heard.Claimed claimed.NoPlace) r.marked
+    at : (begun : Bool) → MarksIn k.version (tree_of k.tree) v (Some (above.Claim l.op.0)) false begun (Some (heard.Claimed claimed.NoPlace)) r.marked → MarksAt k.version v (heard.Claimed claimed.NoPlace) r.marked
     at true m = m
     at false m = m
 
@@ -237,16 +257,23 @@ module _ {D : Type 0} (contents : D → List (List ℕ)) (failures : D → ℕ) 
 
   module _ (old : HartsOf D) (k : KeptTree) (new : HartsOf D) (k' : KeptTree) (s : SomeLacks old k) where
     -- the call stays where it is
-    stands_on : (o : Option Running) → get_or new.calls s.hart None ≡ o → StaysAt (Some s.machine) o → Same k k' s.hart → SomeLacks new k'
-    stands_on None is stays same = absurd stays
-    stands_on (Some m) is stays same =
+    stands_on : (o : Option Running) → get_or new.calls s.hart None ≡ o → StaysAt (Some s.machine) o → Same k k' s.hart → k'.version ≡ k.version → SomeLacks new k'
+    stands_on None is stays same version = absurd stays
+    stands_on (Some m) is stays same version =
         let v : StillCalled s.call (hart_in k' s.hart) = still_called s.call (hart_in k' s.hart) (hart_in k s.hart) s.kept same in
-        record { hart = s.hart; machine = m; call = v.call; code = is; kept = v.is; lacks = lacks_still s.machine m s.call v.call stays.0 v.same s.lacks }
+        record {
+          hart = s.hart;
+          machine = m;
+          call = v.call;
+          code = is;
+          kept = v.is;
+          lacks = subst (λ (z : Version). Lacks z m v.call) (sym version) (lacks_still k.version s.machine m s.call v.call stays.0 v.same s.lacks);
+        }
 
     stays_there : StaysAt (get_or old.calls s.hart None) (get_or new.calls s.hart None) → Passes k k' → SomeLacks new k'
     stays_there stays p =
         stands_on (get_or new.calls s.hart None) refl (subst (λ (z : Option Running). StaysAt z (get_or new.calls s.hart None)) s.code stays)
-        (ap (option_map (walking None)) (passed_same k k' p s.hart))
+        (ap (option_map (walking None)) (passed_same k k' p s.hart)) (passed_version k k' p)
 
     -- it runs a step
     told : (out : Option (Unit {0})) (x : Option Heard)
@@ -290,7 +317,9 @@ module _ {D : Type 0} (contents : D → List (List ℕ)) (failures : D → ℕ) 
       | inl same ↦ own e c n same
       | inr ne ↦
           let still = other_call (hart_of e) s.hart old.calls new.calls n.tells.others ne ∙ s.code in
-          inr (stands_on (Some s.machine) still (refl, refl) (others_same k e c (heard_in c n.heard) k' (faultless e old k c new k' n) n.took s.hart ne))
+          let right : StartsFaultless e c = faultless e old k c new k' n in
+          let x : Option Heard = heard_in c n.heard in
+          inr (stands_on (Some s.machine) still (refl, refl) (others_same k e c x k' right n.took s.hart ne) (same_version k e c x k' right n.took))
     ]
 
   -- ---- a run

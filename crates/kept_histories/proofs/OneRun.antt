@@ -22,7 +22,7 @@ use Rattle.hart_core.specs.Worlds.{WorldOf, calls_of}
 use Rattle.hart_core.specs.declared.events.Came.{Came}
 use Rattle.hart_core.specs.declared.events.Event.{Event as HartEvent}
 use Rattle.inode_machine.specs.Kept.{kept_start, kept_step, nothing_yet, placed_prog, placed_tried, placed_unless, told_of}
-use Rattle.inode_machine.specs.VersionOne.{kept, kept_on, placed, placed_run}
+use Rattle.inode_machine.specs.Kept.{kept, kept_on, placed, placed_run}
 use Rattle.inode_machine.specs.MoveCalls.{MoveMachine}
 use Rattle.inode_machine.specs.Vocabulary.{MoveStep}
 use Rattle.inodes_on_blocks.specs.Below as blocks
@@ -123,7 +123,7 @@ module _ (sizes : Super) where
   N = block_moves sizes
 
   abbrev U : Machine
-  U = served_calls.M
+  U = (served_calls sizes.version).M
 
   -- the state over other blocks
   abbrev pub over : World → State (block_calls sizes) → State (block_calls sizes)
@@ -202,7 +202,7 @@ module _ (sizes : Super) where
     unless_alike r false came = prog_alike r r.prog came
 
     run_alike : (o : Option (Run (block_calls sizes))) → by_kind L C (step_run L h x s o).came ≡ by_kind L C (step_run L h y s o).came
-        → AlikeMade h (step_run L h x s o) (placed_run N h x s o) (step_run L h y s o) (placed_run N h y s o)
+        → AlikeMade h (step_run L h x s o) (placed_run sizes.version N h x s o) (step_run L h y s o) (placed_run sizes.version N h y s o)
     run_alike None came = itself h (step_run L h x s None) []
     run_alike (Some r) came = unless_alike r s.stopped came
 
@@ -210,14 +210,14 @@ module _ (sizes : Super) where
 
   -- two events led to states that go on alike, and kept the same
   abbrev pub GoAlike : Event Call Outside → Event Call Outside → State (block_calls sizes) → State (block_calls sizes) → Type 0
-  GoAlike e f s t = Beside (next (block_calls sizes) e s) (next (block_calls sizes) f t) × ((b : History) → kept_on N e s b ≡ kept_on N f t b)
+  GoAlike e f s t = Beside (next (block_calls sizes) e s) (next (block_calls sizes) f t) × ((b : History) → kept_on sizes.version N e s b ≡ kept_on sizes.version N f t b)
 
   one_alike : (e f : Event Call Outside) (s : State (block_calls sizes)) → asked e ≡ asked f
       → by_kind (block_calls sizes) (block_code sizes) (makes (block_calls sizes) e s).came ≡ by_kind (block_calls sizes) (block_code sizes) (makes (block_calls sizes) f s).came → GoAlike e f s s
   one_alike (Start h call) (Start g other) s same came =
       let at : h ≡ g = cc in
       let is : call ≡ other = cc in
-      (inl (λ i. next (block_calls sizes) (Start (at i) (is i)) s), λ b. (λ i. kept_on N (Start (at i) (is i)) s b))
+      (inl (λ i. next (block_calls sizes) (Start (at i) (is i)) s), λ b. (λ i. kept_on sizes.version N (Start (at i) (is i)) s b))
   one_alike (Start h call) (Step g y) s same came = absurd cc
   one_alike (Step h x) (Start g other) s same came = absurd cc
   one_alike (Step h x) (Step g y) s same came =
@@ -252,7 +252,7 @@ module _ (sizes : Super) where
       × ((b : History) → kept_start N h call (start_run L h call s o).came b ≡ kept_start N h call (start_run L h call (over r s) o).came b)
   start_alike h call s r (Some under) still came = (inr (still, (r, refl)), λ b. refl)
   start_alike h call s r None still came =
-      begun_alike h call s r (began_to s.world.seen (served_calls.start h call (busy_in L s) s.world.seen)) (begins sizes h call (busy_in L s) s.world.real) (begins sizes h call (busy_in L s) r) still came
+      begun_alike h call s r (began_to s.world.seen ((served_calls sizes.version).start h call (busy_in L s) s.world.seen)) (begins sizes h call (busy_in L s) s.world.real) (begins sizes h call (busy_in L s) r) still came
 
   stopped_alike : (e f : Event Call Outside) (s : State (block_calls sizes)) (r : World) → s.stopped ≡ true → asked e ≡ asked f
       → by_kind (block_calls sizes) (block_code sizes) (makes (block_calls sizes) e s).came ≡ by_kind (block_calls sizes) (block_code sizes) (makes (block_calls sizes) f (over r s)).came → GoAlike e f s (over r s)
@@ -268,8 +268,8 @@ module _ (sizes : Super) where
       let one = stays h x s (s.running h) still in
       let two = stays g y (over r s) (s.running g) still in (
         inr (ap (λ (z : State (block_calls sizes)). z.stopped) one.0 ∙ still, (r, ap (over r) one.0 ∙ sym two.0)),
-        λ b. one.1 (N.tree s.world) (N.tree (next L (Step h x) s).world) (told_of N (placed N (Step h x) s)) b
-            ∙ sym (two.1 (N.tree s.world) (N.tree (next L (Step g y) (over r s)).world) (told_of N (placed N (Step g y) (over r s))) b),
+        λ b. one.1 (N.tree s.world) (N.tree (next L (Step h x) s).world) (told_of N (placed sizes.version N (Step h x) s)) b
+            ∙ sym (two.1 (N.tree s.world) (N.tree (next L (Step g y) (over r s)).world) (told_of N (placed sizes.version N (Step g y) (over r s))) b),
       )
 
   event_alike : (e f : Event Call Outside) (s t : State (block_calls sizes)) → Beside s t → asked e ≡ asked f
@@ -288,7 +288,8 @@ module _ (sizes : Super) where
   -- What is asked and its outcome determine what is kept, and the world above.
   pub runs_alike : (a b : List (Event Call Outside)) (s t : State (block_calls sizes)) (k : History) → Beside s t → all_asked a ≡ all_asked b
       → all_by_kind (block_calls sizes) (block_code sizes) (outcomes (block_calls sizes) a s) ≡ all_by_kind (block_calls sizes) (block_code sizes) (outcomes (block_calls sizes) b t)
-      → (kept (block_moves sizes) a s k ≡ kept (block_moves sizes) b t k) × ((run (block_calls sizes) a s).world.seen ≡ (run (block_calls sizes) b t).world.seen)
+      → (kept sizes.version (block_moves sizes) a s k ≡ kept sizes.version (block_moves sizes) b t k)
+      × ((run (block_calls sizes) a s).world.seen ≡ (run (block_calls sizes) b t).world.seen)
   runs_alike [] [] s t k beside same came = (refl, seen_alike s t beside)
   runs_alike [] (f ∷ b) s t k beside same came = absurd cc
   runs_alike (e ∷ a) [] s t k beside same came = absurd cc
@@ -298,8 +299,8 @@ module _ (sizes : Super) where
       let first_came : by_kind L C (makes L e s).came ≡ by_kind L C (makes L f t).came = cc in
       let rest_came : all_by_kind L C (outcomes L a (next L e s)) ≡ all_by_kind L C (outcomes L b (next L f t)) = cc in
       let alike : GoAlike e f s t = event_alike e f s t beside first_same first_came in
-      let rest = runs_alike a b (next L e s) (next L f t) (kept_on N e s k) alike.0 rest_same rest_came in
-      (rest.0 ∙ ap (kept N b (next L f t)) (alike.1 k), rest.1)
+      let rest = runs_alike a b (next L e s) (next L f t) (kept_on sizes.version N e s k) alike.0 rest_same rest_came in
+      (rest.0 ∙ ap (kept sizes.version N b (next L f t)) (alike.1 k), rest.1)
 
 module _ {D : Type 0} (contents : D → List (List ℕ)) (failures : D → ℕ) (w : WorldOf D) where
   abbrev start : State (block_calls w.sizes)
@@ -324,4 +325,4 @@ module _ {D : Type 0} (contents : D → List (List ℕ)) (failures : D → ℕ) 
   one_run device events came new other a b mounted one two =
       let alike = runs_alike w.sizes a b start start nothing_yet (inl refl) (one.asks ∙ sym two.asks)
       (outcomes_as device events came new a mounted one ∙ sym (outcomes_as device events came other b mounted two)) in
-      (ap (λ (z : History). z.list) alike.0, λ clean. subst served_calls.M.Clean alike.1 clean)
+      (ap (λ (z : History). z.list) alike.0, λ clean. subst (served_calls w.sizes.version).M.Clean alike.1 clean)

@@ -15,8 +15,8 @@ use Rattle.hart_core.specs.Harts.{HartsOf, shared_of}
 use Rattle.hart_core.specs.Telling.{RanAt, SetsAt, rest_of}
 use Rattle.hart_core.specs.Worlds.{calls_of}
 use Rattle.inode_machine.specs.Kept.{told_of}
-use Rattle.inode_machine.specs.VersionOne.{placed}
-use Rattle.inode_machine.specs.VersionOne.{MakesPlaced}
+use Rattle.inode_machine.specs.Kept.{placed}
+use Rattle.inode_machine.specs.Making.{MakesPlaced}
 use Rattle.inode_machine.specs.MoveCalls.{MoveMachine}
 use Rattle.inode_parts.specs.Telling.{GoesOrEnds, part_of}
 use Rattle.path_walk.specs.declared.asks.Heard.{Heard}
@@ -25,6 +25,7 @@ use Rattle.plain_tree.specs.declared.answer.Reply.{Reply}
 use Rattle.run_laws.specs.UnderWay.{RunsAStep, StepsPlaceInTime, UnderWay, gone_on}
 use Rattle.run_laws.specs.Vocabulary.{or_else}
 use Rattle.syscalls.specs.Machines.{Running, TellsOf}
+use Rattle.image_versions.specs.declared.version.Version.{Version}
 use Rattle.tree_histories.proofs.Harts.{is_hart, other_hart, put_twice, same_hart}
 use Rattle.tree_histories.specs.Books.{IsBook}
 use Rattle.tree_histories.specs.Keeping.{HeardBy, KeptTree, Under, hart_in, passed, stage_of, walk_under, walking, with_hart}
@@ -40,7 +41,7 @@ use Rattle.kept_histories.proofs.Amid.{AreAmid}
 use Rattle.kept_histories.proofs.Controls.{at_end}
 use Rattle.kept_histories.proofs.Found.{AllFound, acted_room}
 use Rattle.kept_histories.proofs.KeptCalls.{KeptAs}
-use Rattle.kept_histories.proofs.Marks.{PlacesAlike, calls_stay}
+use Rattle.kept_histories.proofs.Marks.{PlacesAlike, calls_stay, version_stays}
 use Rattle.kept_histories.proofs.Moved.{MovedOn, moved_on}
 use Rattle.kept_histories.proofs.StepMarks.{HeardAt, SeesAlike, step_alike}
 use Rattle.kept_histories.proofs.Stepped.{Comes, comes_to}
@@ -51,10 +52,11 @@ module _ {D : Type 0} (contents : D → List (List ℕ)) (failures : D → ℕ) 
     (agree : Agrees contents failures sizes s b old k was) (out : Option (Unit {0})) (heard : Option Heard)
     (ran : RanAt h (get_or old.calls h None) out heard (get_or new.calls h None) (shared_of contents failures old) (shared_of contents failures new))
     (sets : SetsAt h old.calls new.calls) (amid : KeptTree) (kept : HasRun k h heard amid)
-    (placed_so : MakesPlaced h ((block_moves sizes).tree s.world) (placed (block_moves sizes) (Step h Passes) s) ((block_moves sizes).tree made.after.world))
+    (placed_so : MakesPlaced sizes.version h ((block_moves sizes).tree s.world) (placed sizes.version (block_moves sizes) (Step h Passes) s)
+    ((block_moves sizes).tree made.after.world))
     (code : erase (block_calls sizes) (block_code sizes) made.after ≡ calls_of contents failures sizes new)
     (fine : AreAmid new) (found : AllFound was) (clean : made.after.world.seen.clean ≡ true)
-    (sees : SeesAlike r.under (tree_of k.tree) s.world.seen (r.rest r.answer) (or_else r.acts r.under.acted)) where
+    (sees : SeesAlike sizes.version r.under (tree_of k.tree) s.world.seen (r.rest r.answer) (or_else r.acts r.under.acted)) where
   abbrev N : MoveMachine
   N = block_moves sizes
 
@@ -89,44 +91,56 @@ module _ {D : Type 0} (contents : D → List (List ℕ)) (failures : D → ℕ) 
       subst (HeardAt r.under (r.rest r.answer)) (sym ran_here.2)
       (heard_so sizes r.under (r.rest r.answer) (now h) left.control left.hand out left.control.ended comes)
 
-  alike : PlacesAlike h (placed N (Step h Passes) s) (action_in here.call.whole) kept.marked
+  alike : PlacesAlike h (placed sizes.version N (Step h Passes) s) (action_in here.call.whole) kept.marked
   alike =
       step_alike sizes h Passes s made was now r here.call here.together.kept (tree_of k.tree) heard kept.marked heard_at
       (acted_room sizes h Passes s made was now r clean found) in_time here.together.fits here.together.begun
-      (subst (λ (z : Option Under). MarksBy (tree_of k.tree) z heard kept.marked) here.found kept.marks)
+      (subst (λ (z : Option Under). MarksBy sizes.version (tree_of k.tree) z heard kept.marked) here.found
+      (subst (λ (z : Version). MarksBy z (tree_of k.tree) (hart_in k h) heard kept.marked) agree.version kept.marks))
       sees
 
-  moved : MovedOn N h k (N.tree s.world) (N.tree made.after.world) (placed N (Step h Passes) s) agree.stage placed_so here.call here.found kept.marked kept.between kept.moves
+  placed_here : MakesPlaced k.version h (N.tree s.world) (placed sizes.version N (Step h Passes) s) (N.tree made.after.world)
+  placed_here =
+      subst (λ (z : Version). MakesPlaced z h (N.tree s.world) (placed sizes.version N (Step h Passes) s) (N.tree made.after.world)) (sym agree.version) placed_so
+
+  moved : MovedOn N h k (N.tree s.world) (N.tree made.after.world) (placed sizes.version N (Step h Passes) s) agree.stage placed_here here.call here.found kept.marked kept.between kept.moves
   moved =
-      moved_on N h k (N.tree s.world) (N.tree made.after.world) (placed N (Step h Passes) s) agree.stage placed_so here.call here.found kept.marked kept.between
+      moved_on N h k (N.tree s.world) (N.tree made.after.world)
+      (placed sizes.version N (Step h Passes) s) agree.stage placed_here here.call here.found kept.marked kept.between
       kept.moves alike
 
   same_calls : SameCalls k kept.between
   same_calls = calls_stay k h kept.marked kept.between kept.moves
 
+  version : kept.between.version ≡ sizes.version
+  version = version_stays k h kept.marked kept.between kept.moves ∙ agree.version
+
   still : StillCalled here.call (hart_in kept.between h)
   still = still_called here.call (hart_in kept.between h) (hart_in k h) here.found (same_calls h)
 
-  kept_as : KeptAs (Do r.under.op r.under.mark r.under.rest) still.call
-  kept_as = subst (λ (z : Under). KeptAs (Do r.under.op r.under.mark r.under.rest) z) (sym still.same) here.together.kept
+  kept_as : KeptAs sizes.version (Do r.under.op r.under.mark r.under.rest) still.call
+  kept_as = subst (λ (z : Under). KeptAs sizes.version (Do r.under.op r.under.mark r.under.rest) z) (sym still.same) here.together.kept
 
-  fits : WholeFits still.call.listed still.call.whole
-  fits = subst (λ (z : Under). WholeFits z.listed z.whole) (sym still.same) here.together.fits
+  fits : WholeFits sizes.version still.call.listed still.call.whole
+  fits = subst (λ (z : Under). WholeFits sizes.version z.listed z.whole) (sym still.same) here.together.fits
 
   sized : left.control.sizes ≡ sizes
   sized = tells.tells.sizes ∙ here.together.sized
 
   -- the history with the move
   abbrev pub then_ : History
-  then_ = moves_on (N.tree s.world) (N.tree made.after.world) h (told_of N (placed N (Step h Passes) s)) b
+  then_ = moves_on (N.tree s.world) (N.tree made.after.world) h (told_of N (placed sizes.version N (Step h Passes) s)) b
 
-  heard_by : HeardBy (Some still.call) heard kept.hears.under
-  heard_by = subst (λ (z : Option Under). HeardBy z heard kept.hears.under) still.is kept.hears.hears
+  heard_by : HeardBy sizes.version (Some still.call) heard kept.hears.under
+  heard_by =
+      subst (λ (z : Option Under). HeardBy sizes.version z heard kept.hears.under) still.is
+      (subst (λ (z : Version). HeardBy z (hart_in kept.between h) heard kept.hears.under) version kept.hears.hears)
 
   amid_book : IsBook amid then_
   amid_book =
       subst (λ (z : KeptTree). IsBook z then_) (sym kept.hears.kept)
-      (book_put kept.between then_ h still.call kept.hears.under still.is (stands_still still.call heard kept.hears.under heard_by) (moved.book b agree.book))
+      (book_put kept.between then_ h still.call kept.hears.under still.is (stands_still sizes.version still.call heard kept.hears.under heard_by)
+      (moved.book b agree.book))
 
   -- the harts, if this one's is as it should be, and the others' calls have not changed after that
   all_at : (k' : KeptTree) → HartAt sizes (now h) (get_or new.calls h None) (hart_in k' h) → ((j : ℕ) → j ≢ h → hart_in k' j ≡ hart_in kept.between j)
@@ -152,11 +166,12 @@ module _ {D : Type 0} (contents : D → List (List ℕ)) (failures : D → ℕ) 
     stage = ap stage_of p.kept ∙ goes.stage ∙ moved.stage ∙ ap (λ (z : State (block_calls sizes)). N.tree z.world) (sym is);
     book = p.book then_ amid_book;
     room = ap (λ (z : KeptTree). z.full) p.kept ∙ ap (λ (z : KeptTree). z.full) kept.hears.kept ∙ moved.full ∙ agree.room;
+    version = ap (λ (z : KeptTree). z.version) p.kept ∙ ap (λ (z : KeptTree). z.version) kept.hears.kept ∙ version;
   }
     where
-      goes : CallGoes sizes r.under (r.rest r.answer) (now h) left h kept.between amid still.call still.is kept_as fits heard kept.hears sized
+      goes : CallGoes sizes r.under (r.rest r.answer) (now h) left h kept.between amid still.call still.is kept_as fits heard kept.hears sized version
       goes =
-          call_goes sizes r.under (r.rest r.answer) (now h) left h kept.between amid still.call still.is kept_as fits heard kept.hears sized left.control.ended
+          call_goes sizes r.under (r.rest r.answer) (now h) left h kept.between amid still.call still.is kept_as fits heard kept.hears sized version left.control.ended
           (subst (λ (o : Option (Unit {0})). Comes sizes r.under (r.rest r.answer) (now h) left.control left.hand o left.control.ended) e comes)
           ran_here.2
 
@@ -169,6 +184,7 @@ module _ {D : Type 0} (contents : D → List (List ℕ)) (failures : D → ℕ) 
     stage = ap stage_of kept_is ∙ stage_same kept.between h still.call None still.is walk ∙ moved.stage ∙ ap (λ (z : State (block_calls sizes)). N.tree z.world) (sym is);
     book = p.book then_ reply (subst (λ (z : ℕ). h < z) agree.book.harts (is_hart k h here.call here.found)) amid_book;
     room = ap (λ (z : KeptTree). z.full) kept_is ∙ moved.full ∙ agree.room;
+    version = ap (λ (z : KeptTree). z.version) kept_is ∙ version;
   }
     where
       kept_is : k' ≡ passed (with_hart kept.between h None)
@@ -191,5 +207,5 @@ module _ {D : Type 0} (contents : D → List (List ℕ)) (failures : D → ℕ) 
       at_h = subst (λ (z : Option UnderWay). HartAt sizes z (get_or new.calls h None) (hart_in k' h)) (sym none_now)
           (subst (λ (z : Option Running). HartAt sizes None z (hart_in k' h)) (sym none_left) (subst (λ (z : Option Under). HartAt sizes None None z) (sym none_kept) tt))
 
-      walk : walk_under None ≡ walk_under (Some still.call)
-      walk = sym (rests none_now) ∙ ap (λ (m : Stage). m.walk h) (sym moved.stage) ∙ ap walk_under still.is
+      walk : walk_under kept.between.version None ≡ walk_under kept.between.version (Some still.call)
+      walk = sym (rests none_now) ∙ ap (λ (m : Stage). m.walk h) (sym moved.stage) ∙ ap (walk_under kept.between.version) still.is

@@ -16,6 +16,7 @@ use Rattle.whole_calls.specs.declared.reading.Read.TheVariants as reading
 use Rattle.whole_calls.specs.declared.whole.Whole.{Whole}
 use Rattle.whole_calls.specs.declared.whole.Whole.TheVariants as whole
 use Rattle.kept_histories.proofs.Heads.{IsFine, IsFineOp, reads_or_fine}
+use Rattle.image_versions.specs.declared.version.Version.{Version}
 
 -- no more is read than the operation asks for
 abbrev pub RoomOf : above.Op → Heard → Type 0
@@ -46,20 +47,22 @@ fine_asks (Do o m k) op fine e = ap is_read (sym (Some-inj o op e)) ∙ fine_unr
 
 -- ---- the operation that a call asks
 
-reads_room : (ns : List ℕ) (w : Whole) (op : above.Op) (x : Heard) → IsReading w → asks (whole_of ns w) ≡ Some op → HasRoomFor x w → RoomOf op x
-reads_room ns (whole.Read fd buf (reading.Part n offset)) op x t e room = subst (λ (o : above.Op). RoomOf o x) (Some-inj (ReadFile fd n offset (length buf.items)) op e) room
-reads_room ns w op x t e room = absurd t
+reads_room : (version : Version) (ns : List ℕ) (w : Whole) (op : above.Op) (x : Heard) → IsReading w → asks (whole_of version ns w) ≡ Some op → HasRoomFor x w
+    → RoomOf op x
+reads_room version ns (whole.Read fd buf (reading.Part n offset)) op x t e room = subst (λ (o : above.Op). RoomOf o x) (Some-inj (ReadFile fd n offset (length buf.items)) op e) room
+reads_room version ns w op x t e room = absurd t
 
 -- at what the call has room for
-pub room_asked : (ns : List ℕ) (w : Whole) (op : above.Op) → asks (whole_of ns w) ≡ Some op → (x : Heard) → HasRoomFor x w → RoomOf op x
-room_asked ns w op e x room = elim (reads_or_fine ns w) [
-  | inl reads ↦ reads_room ns w op x reads e room
-  | inr fine ↦ room_unread op x (fine_asks (whole_of ns w) op fine e)
+pub room_asked : (version : Version) (ns : List ℕ) (w : Whole) (op : above.Op) → asks (whole_of version ns w) ≡ Some op → (x : Heard) → HasRoomFor x w → RoomOf op x
+room_asked version ns w op e x room = elim (reads_or_fine version ns w) [
+  | inl reads ↦ reads_room version ns w op x reads e room
+  | inr fine ↦ room_unread op x (fine_asks (whole_of version ns w) op fine e)
 ]
 
 -- so it doesn't read too much
-pub none_too_much : (ns : List ℕ) (w : Whole) (op : above.Op) (x : Heard) → asks (whole_of ns w) ≡ Some op → RoomOf op x → ReadsTooMuch x w → ⊥
-none_too_much ns (whole.Read fd buf (reading.Part n offset)) op x e room much =
+pub none_too_much : (version : Version) (ns : List ℕ) (w : Whole) (op : above.Op) (x : Heard) → asks (whole_of version ns w) ≡ Some op → RoomOf op x → ReadsTooMuch x w
+    → ⊥
+none_too_much version ns (whole.Read fd buf (reading.Part n offset)) op x e room much =
     let fits : count_in x ≤ length buf.items = subst (λ (o : above.Op). RoomOf o x) (sym (Some-inj (ReadFile fd n offset (length buf.items)) op e)) room in
     omega (arith, fits, much)
-none_too_much ns w op x e room much = much
+none_too_much version ns w op x e room much = much

@@ -13,8 +13,8 @@ use Rattle.hart_core.specs.Harts.{AreHarts, HartFits, HartsOf, shared_of}
 use Rattle.hart_core.specs.Telling.{some_lacks_place}
 use Rattle.hart_core.specs.declared.events.Came.{Came}
 use Rattle.hart_core.specs.declared.events.Event.{Event as HartEvent}
-use Rattle.image_tree.specs.VersionOne.{tree_in}
-use Rattle.inode_machine.specs.VersionOne.{kept_on}
+use Rattle.image_tree.specs.Images.{tree_in}
+use Rattle.inode_machine.specs.Kept.{kept_on}
 use Rattle.inode_machine.specs.MoveCalls.{MoveMachine}
 use Rattle.inode_parts.specs.Calls.{LoweredReady}
 use Rattle.inode_parts.specs.Telling.{lacks_place}
@@ -40,6 +40,7 @@ use Rattle.kept_histories.proofs.Prefixes.{clean_at, honest_parts, so_far}
 use Rattle.kept_histories.proofs.ShownFirst.{sees_rightly}
 use Rattle.kept_histories.proofs.Together.{HartAt}
 use Rattle.kept_histories.proofs.Basics.{longer, not_both}
+use Rattle.fs_layout.specs.Recovered.{version_in}
 
 module _ (disk : List (List ℕ)) (count : ℕ) (whole : List (Event Call Outside)) (honest : AllHonest (block_calls (sizes_of disk)) whole (fresh (block_calls (sizes_of disk)) (first disk count)))
     (goes : GoesOnAsItActs (sizes_of disk) (first disk count) whole) (began : RunsOn disk count []) where
@@ -79,11 +80,11 @@ module _ (disk : List (List ℕ)) (count : ℕ) (whole : List (Event Call Outsid
     -- what is known of an event that is the first to find no room
     known_short : KnownShort (sizes_of disk) f (at past) (goes.under (length past)) (goes.under (suc (length past)))
     known_short =
-        let begins : RunsFrom N (tree_in disk) (first disk count) past = runs_from disk count past runs in
+        let begins : RunsFrom (version_in disk) N (tree_in disk) (first disk count) past = runs_from disk count past runs in
         record {
           does = goes.leads_on past f rest is;
           fits = goes.fits past (f ∷ rest) is;
-          tells = λ h u under. says_so u (all_spoil sizes (first disk count) whole goes past (f ∷ rest) is h u under);
+          tells = λ h u under. says_so (version_in disk) u (all_spoil sizes (first disk count) whole goes past (f ∷ rest) is h u under);
           sees = λ h made r off t same.
               sees_rightly sizes (first disk count) whole goes begins.holds begins.idle honest past (f ∷ rest) is off t same h _ made (goes.under (suc (length past))) r;
           shows = shows_there sizes (first disk count) whole goes begins.holds begins.idle honest past (f ∷ rest) is;
@@ -141,11 +142,11 @@ module _ (disk : List (List ℕ)) (count : ℕ) (whole : List (Event Call Outsid
       run_ends past (e ∷ es) [] b old new k k' r is clean found none agrees few = absurd r
       run_ends past (e ∷ es) (c ∷ cs) b old new k k' r is clean found none agrees few =
           ends ((next L f (at past)).world.seen.clean) refl
-          (λ ok. run_ends more es cs (kept_on N f (at past) b) r.0 new r.1 k' r.3 on (clean_then ok)
+          (λ ok. run_ends more es cs (kept_on (version_in disk) N f (at past) b) r.0 new r.1 k' r.3 on (clean_then ok)
           (at_more (λ n. AllFound (goes.under n)) (event_found sizes (at past) (makes L f (at past)) (goes.under (length past)) (goes.under (suc (length past))) f (known_of ok).does ok found))
           (at_more (λ n. NoneGivesBack (goes.under n)) (none_then ok))
-          (at_more (λ n. AgreesAt contents failures sizes goes.under n (at more) (kept_on N f (at past) b) r.0 r.1)
-          (subst (λ (z : State L). AgreesAt contents failures sizes goes.under (suc (length past)) z (kept_on N f (at past) b) r.0 r.1) (sym (then_at past f)) (there ok)))
+          (at_more (λ n. AgreesAt contents failures sizes goes.under n (at more) (kept_on (version_in disk) N f (at past) b) r.0 r.1)
+          (subst (λ (z : State L). AgreesAt contents failures sizes goes.under (suc (length past)) z (kept_on (version_in disk) N f (at past) b) r.0 r.1) (sym (then_at past f)) (there ok)))
           (let more_long = longer past f in omega (arith, few, more_long)))
         where
           f : Event Call Outside
@@ -170,7 +171,7 @@ module _ (disk : List (List ℕ)) (count : ℕ) (whole : List (Event Call Outsid
           known_of ok = known disk count more (runs_to more rest on (clean_then ok)) (goes_to more rest on) past f [] refl found
 
           there : (next L f (at past)).world.seen.clean ≡ true
-              → AgreesAt contents failures sizes goes.under (suc (length past)) (next L f (at past)) (kept_on N f (at past) b) r.0 r.1
+              → AgreesAt contents failures sizes goes.under (suc (length past)) (next L f (at past)) (kept_on (version_in disk) N f (at past) b) r.0 r.1
           there ok =
               record {
                 agrees = event_agrees contents failures sizes in_time (at past) (goes.under (length past)) (goes.under (suc (length past))) b old r.0 k r.1 agrees.agrees
@@ -207,7 +208,7 @@ module _ (disk : List (List ℕ)) (count : ℕ) (whole : List (Event Call Outsid
     lacks_none_at new k ends h None m (Some v) is here ready lacks = here
     lacks_none_at new k ends h (Some u) m None is here ready lacks = here
     lacks_none_at new k ends h (Some u) m (Some v) is here ready lacks =
-        ends.none h u is (lacks_gives sizes u m.control m.hand (leads_there sizes ((at whole).running h) u (subst (Fits sizes ((at whole).running h)) is (goes.fits whole [] (append-nil whole) h))) here.stands ready lacks)
+        ends.none h u is (lacks_gives sizes u m.control m.hand (leads_there sizes ((at whole).running h) u (subst (Fits sizes ((at whole).running h)) is (goes.fits whole [] (append-nil whole) h))) here.sized here.stands ready lacks)
 
     pub lacks_none : (new : HartsOf D) (k : KeptTree) → EndsWithRoom new k → AreHarts (shared_of contents failures new) new.calls → some_lacks_place new ≡ false
     lacks_none new k ends harts = by (some_lacks_place new) refl

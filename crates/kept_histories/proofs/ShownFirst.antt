@@ -16,10 +16,10 @@ use Rattle.fs_machine.specs.Steps as steps
 use Rattle.inode_machine.proofs.Vocabulary.{look_live}
 use Rattle.inode_machine.specs.Exec.{entry_of, lock_at, lock_if, locked, read_refused}
 use Rattle.inode_machine.specs.Inodes.{AtEntries, AtName, AtNothing, Query, Sight}
-use Rattle.inode_machine.specs.VersionOne.{seen_in}
-use Rattle.inode_machine.specs.VersionOne.{go, with_mark}
+use Rattle.inode_machine.specs.Inodes.{seen_in}
+use Rattle.inode_machine.specs.Marks.{go, with_mark}
 use Rattle.inode_machine.specs.Rules.{Inv}
-use Rattle.inode_machine.specs.VersionOne.{machine}
+use Rattle.inode_machine.specs.Rules.{machine}
 use Rattle.inode_machine.specs.World.{Answer, Entry, LockResult, LocksIt, Mark, NotLocked, Op, World}
 use Rattle.inode_machine.specs.World as above
 use Rattle.inode_machine.specs.World.Op.{LockFile, LockOpen, StatFile, Take}
@@ -43,17 +43,18 @@ use Rattle.kept_histories.proofs.HandSteps.{InHands, Left, TakesOn}
 use Rattle.kept_histories.proofs.Hands.{AsksSo, Hands, IsAlike, TakesInHand, TakesSo, one}
 use Rattle.kept_histories.proofs.InHand.{Holds}
 use Rattle.kept_histories.proofs.Controls.{at_end}
+use Rattle.image_versions.specs.declared.version.Version.{Version}
 
 -- Of the world above: if a mark depends on what is seen of an inode, the tree has it as it is on disk. An open file's
 -- inode is locked, and marked the same whatever inode and offset it has. And a descriptor's state is marked the same,
 -- whatever it is.
-abbrev pub ShowsTruly : Tree → World → (op : Op) → (Answer op → Option Mark) → Answer op → Type 0
-ShowsTruly t w (Take n looking) m a = IsAlike m ⊎ ((t.nodes n ≡ w.disk n) × (n < t.ninodes) × FewSlotsIn (t.nodes n))
-ShowsTruly t w (LockFile fd) m (NotLocked why) = ⊥
-ShowsTruly t w (LockFile fd) m (LocksIt n offset) = (k at : ℕ) → m (LocksIt n offset) ≡ m (LocksIt k at)
-ShowsTruly t w (StatFile fd) m a = IsAlike m
-ShowsTruly t w (LockOpen fd n) m a = IsAlike m
-ShowsTruly t w op m a = Unit {0}
+abbrev pub ShowsTruly : Version → Tree → World → (op : Op) → (Answer op → Option Mark) → Answer op → Type 0
+ShowsTruly version t w (Take n looking) m a = IsAlike m ⊎ ((t.nodes n ≡ w.disk n) × (n < t.ninodes) × FewSlotsIn version (t.nodes n))
+ShowsTruly version t w (LockFile fd) m (NotLocked why) = ⊥
+ShowsTruly version t w (LockFile fd) m (LocksIt n offset) = (k at : ℕ) → m (LocksIt n offset) ≡ m (LocksIt k at)
+ShowsTruly version t w (StatFile fd) m a = IsAlike m
+ShowsTruly version t w (LockOpen fd n) m a = IsAlike m
+ShowsTruly version t w op m a = Unit {0}
 
 -- ---- the first step of an operation's program
 
@@ -67,19 +68,19 @@ acts_now None acted a none e = absurd (let q : None ≡ Some a = sym none ∙ e 
 acts_now (Some b) acted a none e = e
 
 -- the world above locks what may be read
-never_refused : (h : ℕ) (w u : World) (m : LockResult → Option Mark) (e : Option Entry) (r : Option Cause) (why : Cause) → read_refused e ≡ None → r ≡ None → with_mark h m (lock_at h w e r) ≡ Ran (NotLocked why) u → ⊥
-never_refused h w u m e (Some c) why may none ran = (let q : Some c ≡ None = none in cc)
-never_refused h w u m None None why may none ran = (let q : ◌≡◌ {A = Option Cause} (read_refused None) None = may in cc)
-never_refused h w u m (Some e) None why may none ran = by (w.lock e.file.number) ran
+never_refused : (version : Version) (h : ℕ) (w u : World) (m : LockResult → Option Mark) (e : Option Entry) (r : Option Cause) (why : Cause) → read_refused e ≡ None → r ≡ None → with_mark version h m (lock_at h w e r) ≡ Ran (NotLocked why) u → ⊥
+never_refused version h w u m e (Some c) why may none ran = (let q : Some c ≡ None = none in cc)
+never_refused version h w u m None None why may none ran = (let q : ◌≡◌ {A = Option Cause} (read_refused None) None = may in cc)
+never_refused version h w u m (Some e) None why may none ran = by (w.lock e.file.number) ran
   where
-    by : (o : Option ℕ) → with_mark h m (lock_if h e.file.number (LocksIt e.file.number e.file.offset) w (locked h e.file.number w) o) ≡ Ran (NotLocked why) u → ⊥
+    by : (o : Option ℕ) → with_mark version h m (lock_if h e.file.number (LocksIt e.file.number e.file.offset) w (locked h e.file.number w) o) ≡ Ran (NotLocked why) u → ⊥
     by None q = cc q
     by (Some g) q = cc q
 
 module _ (sizes : Super) (h : ℕ) (w : W) (shows : Shows w.real.blocks w.seen) (inv : Inv w.seen) where
   -- what is in hand is shared, and what was counted up last is alive
   seen_taken : (n : ℕ) (looking : Query) (c : Carry) (m : Sight → Option Mark) (g : Option Hands) → TakesInHand g n looking → Holds h g w.seen
-      → GoesOn sizes h w (ShownAlike (settle w.seen.all) w.seen n) (handlers sizes c (Take n looking) m)
+      → GoesOn sizes h w (ShownAlike sizes.version (settle w.seen.all) w.seen n) (handlers sizes c (Take n looking) m)
   seen_taken n looking c m None takes holds = absurd takes
   seen_taken n looking c m (Some g) takes holds =
       take_goes sizes h n w holds.hart shows inv (holds.shared n (let low = in_hand looking takes in more (one ((w.seen.desks h).directory == n)) (g.has n) low)) looking c m (λ e. live (subst (TakesInHand (Some g) n) e takes))
@@ -102,14 +103,14 @@ module _ (sizes : Super) (h : ℕ) (w : W) (shows : Shows w.real.blocks w.seen) 
     shows_first : (op : Op) (m : Answer op → Option Mark) (c : Carry) (lk : steps.Answer lop → P (Handover (Answer op) Carry)) (acts acted : Option (Answer op)) (a : Answer op)
         → handlers sizes c op m ≡ Do lop lm lk → at_end (lk b) ≡ false → HasActed (time_of op) true (is_some acted)
         → (acted ≡ None → (g : Option Hands) × AsksSo g op m × Holds h g w.seen)
-        → (acts ≡ Some a → (y : above.Outside) × (to : World) × (go h y op m w.seen ≡ Ran a to)) → or_else acts acted ≡ Some a
-        → ShowsTruly (settle w.seen.all) w.seen op m a
+        → (acts ≡ Some a → (y : above.Outside) × (to : World) × (go sizes.version h y op m w.seen ≡ Ran a to)) → or_else acts acted ≡ Some a
+        → ShowsTruly sizes.version (settle w.seen.all) w.seen op m a
     shows_first (Take n looking) m c lk acts acted a is goes has asks does e = by (asks (not_yet acted has))
       where
-        by : (g : Option Hands) × (IsAlike m ⊎ TakesInHand g n looking) × Holds h g w.seen → ShowsTruly (settle w.seen.all) w.seen (Take n looking) m a
+        by : (g : Option Hands) × (IsAlike m ⊎ TakesInHand g n looking) × Holds h g w.seen → ShowsTruly sizes.version (settle w.seen.all) w.seen (Take n looking) m a
         by t = elim t.1 [
           | inl alike ↦ inl alike
-          | inr takes ↦ inr (let s = there (ShownAlike (settle w.seen.all) w.seen n) (handlers sizes c (Take n looking) m) lk is goes (seen_taken n looking c m t.0 takes t.2) in (s.same, s.below, s.few))
+          | inr takes ↦ inr (let s = there (ShownAlike sizes.version (settle w.seen.all) w.seen n) (handlers sizes c (Take n looking) m) lk is goes (seen_taken n looking c m t.0 takes t.2) in (s.same, s.below, s.few))
         ]
     shows_first (LockFile fd) m c lk acts acted (LocksIt n offset) is goes has asks does e = λ k at. (asks (not_yet acted has)).1.1 n k offset at
     shows_first (LockFile fd) m c lk acts acted (NotLocked why) is goes has asks does e = by (asks none).0 (asks none).1 (asks none).2
@@ -122,7 +123,7 @@ module _ (sizes : Super) (h : ℕ) (w : W) (shows : Shows w.real.blocks w.seen) 
         by (Some g) t holds =
             let may_read = there (read_refused (entry_of w.seen h fd) ≡ None) (handlers sizes c (LockFile fd) m) lk is goes (file_goes sizes h fd w holds.hart holds.free shows inv c m) in
             let d = does (acts_now acts acted (NotLocked why) none e) in
-            never_refused h w.seen d.1 m (entry_of w.seen h fd) (read_refused (entry_of w.seen h fd)) why may_read may_read d.2
+            never_refused sizes.version h w.seen d.1 m (entry_of w.seen h fd) (read_refused (entry_of w.seen h fd)) why may_read may_read d.2
     shows_first (StatFile fd) m c lk acts acted a is goes has asks does e = (asks (not_yet acted has)).1
     shows_first (LockOpen fd n) m c lk acts acted a is goes has asks does e = (asks (not_yet acted has)).1
     shows_first op m c lk acts acted a is goes has asks does e = tt
@@ -130,16 +131,16 @@ module _ (sizes : Super) (h : ℕ) (w : W) (shows : Shows w.real.blocks w.seen) 
 -- ---- the mark
 
 -- so an operation that acts first has the mark of what such a tree shows
-pub marks_alike : (t : Tree) (w : World) → t.ninodes ≤ 2 ^ 16 → (op : Op) (m : Answer op → Option Mark) (a : Answer op) (y : Heard) → acts_first op ≡ true → ShowsTruly t w op m a → SeesTruly op a w → SeenFor t (Some op) y
+pub marks_alike : (version : Version) (t : Tree) (w : World) → t.ninodes ≤ 2 ^ 16 → (op : Op) (m : Answer op → Option Mark) (a : Answer op) (y : Heard) → acts_first op ≡ true → ShowsTruly version t w op m a → SeesTruly version op a w → SeenFor version t (Some op) y
     → m a ≡ m (answer_to [] op y)
-marks_alike t w few (Take n looking) m a y first (inl alike) sees seen = alike a (answer_to [] (Take n looking) y)
-marks_alike t w few (Take n looking) m a y first (inr s) sees seen =
-    ap m (sees ∙ ap (seen_in n looking) (sym s.0) ∙ sym (seen (let low = s.1 in omega (arith, low, few)) s.2))
-marks_alike t w few (StatFile fd) m a y first shows sees seen = shows a (answer_to [] (StatFile fd) y)
-marks_alike t w few (LockOpen fd n) m a y first shows sees seen = shows a (answer_to [] (LockOpen fd n) y)
-marks_alike t w few (LockFile fd) m (NotLocked why) y first shows sees seen = absurd shows
-marks_alike t w few (LockFile fd) m (LocksIt n offset) y first shows sees seen = shows 0 0 ∙ ap (λ (z : Heard). m (answer_to [] (LockFile fd) z)) (sym seen)
-marks_alike t w few op m a y first shows sees seen = absurd (let q : false ≡ true = first in cc)
+marks_alike version t w few (Take n looking) m a y first (inl alike) sees seen = alike a (answer_to [] (Take n looking) y)
+marks_alike version t w few (Take n looking) m a y first (inr s) sees seen =
+    ap m (sees ∙ ap (seen_in version n looking) (sym s.0) ∙ sym (seen (let low = s.1 in omega (arith, low, few)) s.2))
+marks_alike version t w few (StatFile fd) m a y first shows sees seen = shows a (answer_to [] (StatFile fd) y)
+marks_alike version t w few (LockOpen fd n) m a y first shows sees seen = shows a (answer_to [] (LockOpen fd n) y)
+marks_alike version t w few (LockFile fd) m (NotLocked why) y first shows sees seen = absurd shows
+marks_alike version t w few (LockFile fd) m (LocksIt n offset) y first shows sees seen = shows 0 0 ∙ ap (λ (z : Heard). m (answer_to [] (LockFile fd) z)) (sym seen)
+marks_alike version t w few op m a y first shows sees seen = absurd (let q : false ≡ true = first in cc)
 
 -- ---- along a run
 
@@ -175,13 +176,14 @@ module _ (sizes : Super) where
     pub shows_truly : (h : ℕ) (x : Outside) (made : Made (block_calls sizes)) (now : ℕ → Option UnderWay)
         (r : RunsAStep sizes h x (run (block_calls sizes) es (fresh (block_calls sizes) start)) made (goes.under (length es)) now)
         → none_ran r.under.ran ≡ true → at_end (r.rest r.answer) ≡ false → (a : Answer r.under.op) → or_else r.acts r.under.acted ≡ Some a
-        → let w = (run (block_calls sizes) es (fresh (block_calls sizes) start)).world.seen in ShowsTruly (settle w.all) w r.under.op r.under.mark a
+        → let w = (run (block_calls sizes) es (fresh (block_calls sizes) start)).world.seen in ShowsTruly sizes.version (settle w.all) w r.under.op r.under.mark a
     shows_truly h x made now r first goes_on a acts =
         shows_first sizes h s.world now_holds.0.0 now_holds.1 x r.op r.mark r.answer made.after.world may r.ran u.op u.mark u.hand r.rest r.acts u.acted a
         (all_left (handlers sizes u.hand u.op u.mark) u.ran u.left first call.in_.leads ∙ r.asks) goes_on
         (subst (λ (z : Bool). HasActed (time_of u.op) z (is_some u.acted)) first call.in_.acted)
         (λ none. let t : TakesSo hands.hands (Do u.op u.mark u.rest) = subst (Left hands.hands u) none hands.left in (hands.hands, t.0, hands.holds))
-        (λ e. let d = (subst (λ (o : Option (Answer u.op)). IsMadeBy h u o s.world.seen made.after.world.seen) e r.does).0 in (d.0, made.after.world.seen, d.1))
+        (λ e. let d = (subst (λ (o : Option (Answer u.op)). IsMadeBy sizes.version h u o s.world.seen made.after.world.seen) e r.does).0 in
+        (d.0, made.after.world.seen, d.1))
         acts
       where
         u : UnderWay
@@ -203,7 +205,7 @@ module _ (sizes : Super) where
         hands = subst (InHands h s.world.seen) r.is (in_hands sizes start events goes holds idle honest es rest is off h)
 
         after_this : Handover (Answer u.op) Carry → P Reply
-        after_this z = lowered machine (layer sizes) (handlers sizes) z.carry (u.rest z.answer)
+        after_this z = lowered (machine sizes.version) (layer sizes) (handlers sizes) z.carry (u.rest z.answer)
 
         may : L.M.May h r.op s.world
         may =
@@ -223,7 +225,7 @@ module _ (sizes : Super) where
     -- So what such a tree shows has the mark of what the operation is answered.
     pub sees_rightly : (t : Tree) → t ≡ settle (run (block_calls sizes) es (fresh (block_calls sizes) start)).world.seen.all → (h : ℕ) (x : Outside) (made : Made (block_calls sizes)) (now : ℕ → Option UnderWay)
         (r : RunsAStep sizes h x (run (block_calls sizes) es (fresh (block_calls sizes) start)) made (goes.under (length es)) now)
-        → acts_first r.under.op ≡ true → none_ran r.under.ran ≡ true → at_end (r.rest r.answer) ≡ false → (y : Heard) (a : Answer r.under.op) → SeenFor t (Some r.under.op) y
-        → SeesTruly r.under.op a (run (block_calls sizes) es (fresh (block_calls sizes) start)).world.seen → or_else r.acts r.under.acted ≡ Some a → r.under.mark a ≡ r.under.mark (answer_to [] r.under.op y)
+        → acts_first r.under.op ≡ true → none_ran r.under.ran ≡ true → at_end (r.rest r.answer) ≡ false → (y : Heard) (a : Answer r.under.op) → SeenFor sizes.version t (Some r.under.op) y
+        → SeesTruly sizes.version r.under.op a (run (block_calls sizes) es (fresh (block_calls sizes) start)).world.seen → or_else r.acts r.under.acted ≡ Some a → r.under.mark a ≡ r.under.mark (answer_to [] r.under.op y)
     sees_rightly t same h x made now r acting first goes_on y a seen sees acts =
-        marks_alike (settle s.world.seen.all) s.world.seen few_inodes r.under.op r.under.mark a y acting (shows_truly h x made now r first goes_on a acts) sees (subst (λ (z : Tree). SeenFor z (Some r.under.op) y) same seen)
+        marks_alike sizes.version (settle s.world.seen.all) s.world.seen few_inodes r.under.op r.under.mark a y acting (shows_truly h x made now r first goes_on a acts) sees (subst (λ (z : Tree). SeenFor sizes.version z (Some r.under.op) y) same seen)

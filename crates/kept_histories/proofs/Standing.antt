@@ -27,17 +27,18 @@ use Rattle.kept_histories.proofs.Buffers.{TextFits, hears_same, text_fits, text_
 use Rattle.kept_histories.proofs.Controls.{Answers, at_end, goes_on_still, plain_end, plain_goes}
 use Rattle.kept_histories.proofs.ReadRooms.{RoomOf, room_asked}
 use Rattle.kept_histories.proofs.Basics.{none_some}
+use Rattle.image_versions.specs.declared.version.Version.{Version}
 
 -- what the operation sees in a part's end
 abbrev pub handed : (op : above.Op) → Handover Message Carry → Handover (above.Answer op) Carry
 handed op r = record { answer = answer_by op r.answer; carry = r.carry }
 
 -- text: of a read whose part is under way, its buffer as that began; room: no more is heard to be read than the operation asks for
-pub record StandsAt (u : UnderWay) (l : Lowered) (h : Hand) : Type 0 where
+pub record StandsAt (version : Version) (u : UnderWay) (l : Lowered) (h : Hand) : Type 0 where
   pub text : List ℕ
-  pub program : ◌≡◌ {A = programs.P Reply} (Do u.op u.mark u.rest) (whole_with l.list l.call text)
+  pub program : ◌≡◌ {A = programs.P Reply} (Do u.op u.mark u.rest) (whole_with version l.list l.call text)
   pub part : plain u.left ≡ bind (part_of l h) (λ r. Ret (handed u.op r))
-  pub fits : TextFits (whole_with l.list l.call) text (part_of l h)
+  pub fits : TextFits (whole_with version l.list l.call) text (part_of l h)
   pub room : (x : Heard) → HasRoomFor x l.call → RoomOf u.op x
 
 -- ---- an operation that begins
@@ -53,7 +54,7 @@ pub record Begins (sizes : Super) (c : Carry) (p : programs.P Reply) (l : Lowere
   pub is : at_beginning sizes c p ≡ Some under
   pub begun : under.ran ≡ []
   pub program : ◌≡◌ {A = programs.P Reply} (Do under.op under.mark under.rest) p
-  pub stands : StandsAt under l h
+  pub stands : StandsAt sizes.version under l h
 
 pub begins : (sizes : Super) (c : Carry) (p : programs.P Reply) (l : Lowered) (h : Hand) → AsksNext sizes c p l h → Begins sizes c p l h
 begins sizes c (Ret a) l h next = none_some next.op (ap asks next.left ∙ next.asked)
@@ -66,10 +67,10 @@ begins sizes c (Do op m k) l h next =
       program = refl;
       stands = record {
         text = text_in l.call;
-        program = next.left ∙ sym (with_own_text l.list l.call);
+        program = next.left ∙ sym (with_own_text sizes.version l.list l.call);
         part = subst (λ (o : above.Op). IsPart sizes c o (part_of l h)) (sym same) next.part m;
-        fits = text_fits l.list l.call (part_of l h) next.fills;
-        room = room_asked l.list l.call op (ap asks (sym next.left));
+        fits = text_fits sizes.version l.list l.call (part_of l h) next.fills;
+        room = room_asked sizes.version l.list l.call op (ap asks (sym next.left));
       };
     }
 
@@ -79,7 +80,7 @@ module _ (sizes : Super) (u : UnderWay) (left : P (Handover (above.Answer u.op) 
   -- the part's program goes on, or it has ended
   pub record WentOn (k : Lowered) (g : Hand) : Type 0 where
     pub goes_on : at_end left ≡ false
-    pub stands : (ran : List AnsweredStep) (acted : Option (above.Answer u.op)) → StandsAt (record u { ran = ran; left = left; acted = acted }) k g
+    pub stands : (ran : List AnsweredStep) (acted : Option (above.Answer u.op)) → StandsAt sizes.version (record u { ran = ran; left = left; acted = acted }) k g
 
   pub record Ended (out : Option (Unit {0})) (k : Lowered) (g : Hand) : Type 0 where
     pub end : Handover (above.Answer u.op) Carry
@@ -94,9 +95,12 @@ module _ (sizes : Super) (u : UnderWay) (left : P (Handover (above.Answer u.op) 
   Went (Some end) false k g = ⊥
   Went out true k g = Ended out k g
 
-module _ (sizes : Super) (u : UnderWay) (l : Lowered) (h : Hand) (stands : StandsAt u l h) (sized : l.sizes ≡ sizes) (answer : Answers)
+module _ (sizes : Super) (u : UnderWay) (l : Lowered) (h : Hand) (stands : StandsAt sizes.version u l h) (sized : l.sizes ≡ sizes) (answer : Answers)
     (op : steps.Op) (mark : steps.Answer op → Option Acts) (rest : steps.Answer op → P (Handover (above.Answer u.op) Carry))
     (asks_it : u.left ≡ Do op mark rest) (k : Lowered) (g : Hand) where
+  call_same : PartGoesOn l h answer k g → whole_with sizes.version k.list k.call ≡ whole_with sizes.version l.list l.call
+  call_same p = subst (λ (s : Super). whole_with s.version k.list k.call ≡ whole_with s.version l.list l.call) sized p.call
+
   went_on : PartGoesOn l h answer k g → at_end (part_of k g) ≡ false → WentOn sizes u (rest (answer op)) k g
   went_on p goes =
       let is = plain_goes answer u.left op mark rest (part_of l h) (part_of k g) (λ r. Ret (handed u.op r)) asks_it stands.part p.goes in
@@ -104,10 +108,10 @@ module _ (sizes : Super) (u : UnderWay) (l : Lowered) (h : Hand) (stands : Stand
         goes_on = goes_on_still (rest (answer op)) (bind (part_of k g) (λ r. Ret (handed u.op r))) is ∙ bound_on (part_of k g) goes;
         stands = λ ran acted. record {
           text = stands.text;
-          program = stands.program ∙ sym (ap (λ (z : List ℕ → programs.P Reply). z stands.text) p.call);
+          program = stands.program ∙ sym (ap (λ (z : List ℕ → programs.P Reply). z stands.text) (call_same p));
           part = is;
-          fits = subst (λ (z : List ℕ → programs.P Reply). TextFits z stands.text (part_of k g)) (sym p.call)
-              (text_goes (whole_with l.list l.call) stands.text (part_of l h) (part_of k g) answer stands.fits p.goes);
+          fits = subst (λ (z : List ℕ → programs.P Reply). TextFits z stands.text (part_of k g)) (sym (call_same p))
+              (text_goes (whole_with sizes.version l.list l.call) stands.text (part_of l h) (part_of k g) answer stands.fits p.goes);
           room = λ x fits. stands.room x (p.room x fits);
         };
       }
@@ -119,18 +123,19 @@ module _ (sizes : Super) (u : UnderWay) (l : Lowered) (h : Hand) (stands : Stand
   ended : (out : Option (Unit {0})) → PartEnds l h answer out k g → Ended sizes u (rest (answer op)) out k g
   ended out p =
       let is = plain_goes answer u.left op mark rest (part_of l h) (Ret p.ends) (λ r. Ret (handed u.op r)) asks_it stands.part p.goes in
-      let same : hears_in l.sizes (whole_with l.list l.call (p.ends.answer.0)) p.ends.answer ≡ u.rest (answer_by u.op p.ends.answer) =
-      hears_same l.sizes (whole_with l.list l.call) stands.text p.ends
-      (text_goes (whole_with l.list l.call) stands.text (part_of l h) (Ret p.ends) answer stands.fits p.goes)
-      ∙ ap (λ (z : programs.P Reply). hears_in l.sizes z p.ends.answer) (sym stands.program) in
+      let next : AsksOrEnds sizes p.ends.carry (hears_in sizes (whole_with sizes.version l.list l.call (p.ends.answer.0)) p.ends.answer) out k g =
+      subst (λ (s : Super). AsksOrEnds s p.ends.carry (hears_in s (whole_with s.version l.list l.call (p.ends.answer.0)) p.ends.answer) out k g) sized p.call in
+      let same : hears_in sizes (whole_with sizes.version l.list l.call (p.ends.answer.0)) p.ends.answer ≡ u.rest (answer_by u.op p.ends.answer) =
+      hears_same sizes (whole_with sizes.version l.list l.call) stands.text p.ends
+      (text_goes (whole_with sizes.version l.list l.call) stands.text (part_of l h) (Ret p.ends) answer stands.fits p.goes)
+      ∙ ap (λ (z : programs.P Reply). hears_in sizes z p.ends.answer) (sym stands.program) in
       record {
         end = handed u.op p.ends;
         is = plain_end (rest (answer op)) (handed u.op p.ends) is;
         text = p.ends.answer.0;
         answer = ap (answer_to (p.ends.answer.0) u.op) p.heard;
         room = stands.room k.heard p.room;
-        next = subst (λ (s : Super). AsksOrEnds s p.ends.carry (u.rest (answer_by u.op p.ends.answer)) out k g) sized
-            (subst (λ (z : programs.P Reply). AsksOrEnds l.sizes p.ends.carry z out k g) same p.call);
+        next = subst (λ (z : programs.P Reply). AsksOrEnds sizes p.ends.carry z out k g) same next;
       }
 
   -- So far it is after a step, with the rest of the operation's program, if a part that goes on isn't at its end.

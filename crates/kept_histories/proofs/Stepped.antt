@@ -56,7 +56,7 @@ module _ (sizes : Super) (u : UnderWay) (left : P (Handover (above.Answer u.op) 
     pub is : n ≡ Some (record u { ran = ran; left = left; acted = acted })
     pub goes_on : at_end left ≡ false
     pub has_run : none_ran ran ≡ false
-    pub stands : StandsAt (record u { ran = ran; left = left; acted = acted }) k g
+    pub stands : StandsAt sizes.version (record u { ran = ran; left = left; acted = acted }) k g
 
   -- the operation has ended with what was heard, and the next one begins
   pub record BeginsNext : Type 0 where
@@ -129,7 +129,7 @@ comes sizes u acted step left n (Some end) true k g is w = record {
 
 module _ (sizes : Super) (h : ℕ) (s : State (block_calls sizes)) (made : Made (block_calls sizes)) (was now : ℕ → Option UnderWay)
     (r : RunsAStep sizes h Passes s made was now) (old new : steps.State) (shares : ((block_code sizes).shared s.world).state ≡ old)
-    (m left : Running) (out : Option (Unit {0})) (tells : TellsOf h m out left old new) (stands : StandsAt r.under m.control m.hand) where
+    (m left : Running) (out : Option (Unit {0})) (tells : TellsOf h m out left old new) (stands : StandsAt sizes.version r.under m.control m.hand) where
   pub answers_same : tells.answer r.op ≡ r.answer
   answers_same =
       let asked : asks (lowered_left m.control m.hand) ≡ Some r.op =

@@ -19,6 +19,7 @@ use Rattle.tree_histories.proofs.Harts.{is_hart, other_hart, same_hart, stage_pu
 use Rattle.tree_histories.specs.Keeping.{HasHeard, HeardBy, HearsSo, KeptTree, ReadsTooMuch, Under, hart_in, stage_of, walk_under, walking, with_hart}
 use Rattle.tree_histories.specs.Walks.{walk_of}
 use Rattle.whole_calls.specs.Wholes.{WholeFits}
+use Rattle.image_versions.specs.declared.version.Version.{Version}
 use Rattle.kept_histories.proofs.KeptCalls.{HeardOn, KeptAs, hears_on, same_asked}
 use Rattle.kept_histories.proofs.ReadRooms.{RoomOf, none_too_much}
 use Rattle.kept_histories.proofs.Standing.{StandsAt}
@@ -28,10 +29,10 @@ use Rattle.kept_histories.proofs.Basics.{none_some}
 
 module _ (sizes : Super) where
   pub record Together (u : UnderWay) (m : Running) (v : Under) : Type 0 where
-    pub stands : StandsAt u m.control m.hand
+    pub stands : StandsAt sizes.version u m.control m.hand
     pub sized : m.control.sizes ≡ sizes
-    pub kept : KeptAs (Do u.op u.mark u.rest) v
-    pub fits : WholeFits v.listed v.whole
+    pub kept : KeptAs sizes.version (Do u.op u.mark u.rest) v
+    pub fits : WholeFits sizes.version v.listed v.whole
     pub begun : v.has_begun ≡ not (none_ran u.ran)
 
   -- of a hart: all three, or none of them
@@ -63,16 +64,17 @@ still_called v None p is same = none_some (walking None v) (same ∙ ap (option_
 still_called v (Some w) p is same = record { call = w; is = refl; same = Some-inj (walking None w) (walking None v) (same ∙ ap (option_map (walking None)) is) }
 
 -- the stage is the same, if the hart's walk is
-pub stage_same : (k : KeptTree) (h : ℕ) (w : Under) (o : Option Under) → hart_in k h ≡ Some w → walk_under o ≡ walk_under (Some w) → stage_of (with_hart k h o) ≡ stage_of k
+pub stage_same : (k : KeptTree) (h : ℕ) (w : Under) (o : Option Under) → hart_in k h ≡ Some w → walk_under k.version o ≡ walk_under k.version (Some w) → stage_of (with_hart k h o) ≡ stage_of k
 stage_same k h w o is walk =
     stage_put k h o (is_hart k h w is)
-    ∙ (λ i. record { tree = (stage_of k).tree; walk = walk_same k h (walk_under o) (walk ∙ sym (ap walk_under is)) i })
+    ∙ (λ i. record { tree = (stage_of k).tree; walk = walk_same k h (walk_under k.version o) (walk ∙ sym (ap (walk_under k.version) is)) i })
 
 -- ---- after a step
 
 module _ (sizes : Super) (u : UnderWay) (rest : P (Handover (above.Answer u.op) Carry)) (n : Option UnderWay) (left : Running) (h : ℕ)
-    (between amid : KeptTree) (w : Under) (is : hart_in between h ≡ Some w) (kept : KeptAs (Do u.op u.mark u.rest) w)
-    (fits : WholeFits w.listed w.whole) (x : Option Heard) (hears : HasHeard between h x amid) (sized : left.control.sizes ≡ sizes) where
+    (between amid : KeptTree) (w : Under) (is : hart_in between h ≡ Some w) (kept : KeptAs sizes.version (Do u.op u.mark u.rest) w)
+    (fits : WholeFits sizes.version w.listed w.whole) (x : Option Heard) (hears : HasHeard between h x amid) (sized : left.control.sizes ≡ sizes)
+    (version : between.version ≡ sizes.version) where
   -- the call goes on, and nothing else has changed
   pub record CallGoes : Type 0 where
     pub then_ : Under
@@ -81,7 +83,8 @@ module _ (sizes : Super) (u : UnderWay) (rest : P (Handover (above.Answer u.op) 
     pub stage : stage_of amid ≡ stage_of between
     pub others : (j : ℕ) → j ≢ h → hart_in amid j ≡ hart_in between j
 
-  put_call : (t : Under) → hears.under ≡ Some t → walk_under (Some t) ≡ walk_under (Some w) → HartAt sizes n (Some left) (Some t) → CallGoes
+  put_call : (t : Under) → hears.under ≡ Some t → walk_under between.version (Some t) ≡ walk_under between.version (Some w) → HartAt sizes n (Some left) (Some t)
+      → CallGoes
   put_call t e walk at = record {
     then_ = t;
     found = ap (λ (z : KeptTree). hart_in z h) hears.kept ∙ ap (λ (o : Option Under). hart_in (with_hart between h o) h) e
@@ -91,16 +94,20 @@ module _ (sizes : Super) (u : UnderWay) (rest : P (Handover (above.Answer u.op) 
     others = λ j ne. ap (λ (z : KeptTree). hart_in z j) hears.kept ∙ other_hart between h hears.under j ne;
   }
 
+  heard_here : HeardBy sizes.version (Some w) x hears.under
+  heard_here =
+      subst (λ (z : Option Under). HeardBy sizes.version z x hears.under) is (subst (λ (z : Version). HeardBy z (hart_in between h) x hears.under) version hears.hears)
+
   -- it has room for what it heard
   has_room : RoomOf u.op left.control.heard → ReadsTooMuch left.control.heard w.whole → ⊥
-  has_room = none_too_much w.listed w.whole u.op left.control.heard (same_asked (Do u.op u.mark u.rest) w kept u.op refl)
+  has_room = none_too_much sizes.version w.listed w.whole u.op left.control.heard (same_asked sizes.version (Do u.op u.mark u.rest) w kept u.op refl)
 
-  begins_next : BeginsNext sizes u rest n left.control left.hand → HearsSo w left.control.heard hears.under → CallGoes
+  begins_next : BeginsNext sizes u rest n left.control left.hand → HearsSo sizes.version w left.control.heard hears.under → CallGoes
   begins_next c so =
       let b : UnderWay = c.begins.under in
-      let on : HeardOn u w left.control.heard c.text c.end.answer c.answer kept b.op b.mark b.rest c.begins.program hears.under =
-      hears_on u w left.control.heard c.text c.end.answer c.answer kept b.op b.mark b.rest c.begins.program hears.under so (has_room c.room) in
-      put_call on.then_ on.found (λ i. option_map (walk_of (on.goes.same.3 i)) (on.goes.same.1 i))
+      let on : HeardOn sizes.version u w left.control.heard c.text c.end.answer c.answer kept b.op b.mark b.rest c.begins.program hears.under =
+      hears_on sizes.version u w left.control.heard c.text c.end.answer c.answer kept b.op b.mark b.rest c.begins.program hears.under so (has_room c.room) in
+      put_call on.then_ on.found (λ i. option_map (walk_of between.version (on.goes.same.3 i)) (on.goes.same.1 i))
       (subst (λ (z : Option UnderWay). HartAt sizes z (Some left) (Some on.then_)) (sym c.now) (record {
         stands = c.begins.stands;
         sized = sized;
@@ -121,5 +128,5 @@ module _ (sizes : Super) (u : UnderWay) (rest : P (Handover (above.Answer u.op) 
       }))
 
   pub call_goes : (b : Bool) → Comes sizes u rest n left.control left.hand None b → x ≡ heard_if b left.control.heard → CallGoes
-  call_goes true c e = begins_next c (subst (λ (z : Option Heard). HeardBy (Some w) z hears.under) e (subst (λ (z : Option Under). HeardBy z x hears.under) is hears.hears))
-  call_goes false c e = stays_in c (subst (λ (z : Option Heard). HeardBy (Some w) z hears.under) e (subst (λ (z : Option Under). HeardBy z x hears.under) is hears.hears))
+  call_goes true c e = begins_next c (subst (λ (z : Option Heard). HeardBy sizes.version (Some w) z hears.under) e heard_here)
+  call_goes false c e = stays_in c (subst (λ (z : Option Heard). HeardBy sizes.version (Some w) z hears.under) e heard_here)

@@ -7,7 +7,7 @@ use Rattle.hart_core.specs.Telling.{some_lacks_place}
 use Rattle.hart_core.specs.Worlds.{WorldOf}
 use Rattle.hart_core.specs.declared.events.Came.{Came}
 use Rattle.hart_core.specs.declared.events.Event.{Event}
-use Rattle.image_tree.specs.VersionOne.{tree_in}
+use Rattle.image_tree.specs.Images.{tree_in}
 use Rattle.plain_tree.specs.declared.call.Call.{Call}
 use Rattle.run_laws.specs.OneList.{list_of}
 use Rattle.run_laws.specs.Vocabulary.{Outside}
@@ -23,7 +23,7 @@ module _ {D : Type 0} (contents : D → List (List ℕ)) (failures : D → ℕ) 
   KeptListsAreTheRuns w =
       (device : D) (events : List Event) (came : List Came) (new : HartsOf D) (k : KeptTree) (history : List (EventOf Call Outside))
       → IsMounted contents failures device w
-      → KeepsRun contents failures w.sizes w.harts (nothing_kept (tree_in (contents device))) events came new k
+      → KeepsRun contents failures w.sizes w.harts (nothing_kept w.sizes.version (tree_in (contents device))) events came new k
       → IsHistory contents failures w.sizes w.harts events came new history
       → length events < 2 ^ 64
       → (FoundRoom contents failures w history ↔ ((ended (some_lacks_place new) k).full ≡ false))

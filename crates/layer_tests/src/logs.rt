@@ -13,7 +13,7 @@ use block_device::{BLOCK_LEN, Device, Fault, Fused, MemoryDisk};
 use buffer_cache::{BUFFERS_OF_A_HART, Buffers, Cache, Got, HARTS};
 use fs_layout::{Super, write_super};
 use group_log::{AfterLeave, Log, Marks, Phase, Progress, Txn};
-use image_tree::{MountFault, find_layout, recover};
+use image_tree::{MountFault, find_layout, recover, supers_tell_versions};
 use image_versions::Version;
 use std::alloc::{AllocError, Global};
 use std::process::Abort;
@@ -21,6 +21,7 @@ use std::test::Fail;
 
 // The places of the fresh image's parts, with fewer data blocks.
 const FRESH: Super = Super {
+    version: Version::One,
     size: 64,
     nblocks: 17,
     ninodes: 200,
@@ -36,7 +37,7 @@ const BLOCKS: usize = 64;
 fn disk(rt: &impl Abort, alloc: Global, sizes: &Super) -> Result<MemoryDisk, AllocError> {
     let mut disk = MemoryDisk::new(vec![in alloc; 0u8; BLOCKS * BLOCK_LEN]?);
     let mut block = [0; BLOCK_LEN];
-    write_super(Version::One, &mut block, sizes);
+    write_super(&mut block, sizes);
     assert!(rt; 1 < disk.blocks());
     assert!(rt; disk.write(1, &block) == Ok(()));
     Ok(disk)
@@ -91,6 +92,7 @@ fn recovered<D: Device>(device: &mut D) -> Result<Super, MountFault>
 {
     recover(device, Version::One)?;
     let layout = find_layout(device, Version::One)?;
+    supers_tell_versions();
     let _ = device.blocks();
     Ok(layout.sizes)
 }

@@ -1,7 +1,7 @@
 //! Nodes without a name that are freed, even by a call that is stopped at each call of the device in turn.
 ghost use Rattle.std.specs.Prelude.{◌≡◌, IfOk};
 ghost use Rattle.group_log.specs.Vocabulary.{sizes_of};
-ghost use Rattle.image_tree.specs.VersionOne.{IsWellFormed};
+ghost use Rattle.image_tree.specs.Damage.{IsWellFormed};
 
 use crate::by_hand::{Change, fresh, with};
 use crate::made_images::examine;
@@ -63,7 +63,7 @@ fn byte_at(bytes: &Vec<u8>, at: usize) -> Option<u8> {
 
 // Examines an image, once more if memory was refused.
 fn examined<D: Device>(alloc: Global, device: &mut D) -> Result<Layout, MountFault>
-    ensures { IfOk result (λ layout. IsWellFormed (D.contents device.new) × (layout.sizes ≡ sizes_of (D.contents device.new))) }
+    ensures { IfOk result (λ layout. IsWellFormed Version.One (D.contents device.new) × (layout.sizes ≡ sizes_of (D.contents device.new))) }
 {
     match examine_layout(alloc, device, Version::One) {
         Err(MountFault::NoMemory) => examine_layout(alloc, device, Version::One),

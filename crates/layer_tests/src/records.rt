@@ -25,6 +25,7 @@ fn superblock_of_a_fresh_disk(rt: HostRuntime) {
     let mut block = [0; BLOCK_LEN];
     assert!(rt; read_super(Version::One, &block).is_none());
     let fresh = Super {
+        version: Version::One,
         size: 2000,
         nblocks: 1953,
         ninodes: 200,
@@ -33,7 +34,7 @@ fn superblock_of_a_fresh_disk(rt: HostRuntime) {
         inodestart: 33,
         bmapstart: 46,
     };
-    write_super(Version::One, &mut block, &fresh);
+    write_super(&mut block, &fresh);
     assert!(rt; block.starts_with(&SUPERBLOCK));
     assert!(rt; read_super(Version::One, &block) == Some(fresh));
 }

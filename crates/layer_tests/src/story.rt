@@ -226,7 +226,7 @@ impl Story {
         let tree = Tree::new(alloc, Version::One, ninodes)?;
         let calls = Calls::new(calls);
         let trace = Trace { calls, events };
-        match find_history(alloc, &tree, &trace, &[])? {
+        match find_history(alloc, Version::One, &tree, &trace, &[])? {
             Some(list) => check(alloc, Version::One, &tree, &trace, &list),
             None => Ok(false),
         }

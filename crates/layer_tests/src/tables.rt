@@ -11,6 +11,7 @@ use fs_machine::{
     DESCRIPTORS, Doubled, Dropped, Given, Hand, Inode, InodePlace, Listed, MEMORY_INODES, NewFile,
     OPEN_FILES, ROOT, Reference, Refused, Shut, Tables, Want,
 };
+use image_versions::Version;
 use inode_data::Begun;
 use sleep_lock::Guard;
 use std::mem;
@@ -113,7 +114,7 @@ fn a_removed_directory_has_no_names(rt: HostRuntime) -> Result<(), Fail> {
     let mut hand = Hand::new(rt.alloc())?;
     let guard = tables.lock(0, ROOT).expect(&rt, "nobody has it");
     put(&mut hand.one, loaded(&tables, guard, removed));
-    match Search::lookup(&hand, InodePlace::One, b".") {
+    match Search::lookup(Version::One, &hand, InodePlace::One, b".") {
         Begun::Runs(_search) => panic!(rt; "it has no link"),
         Begun::Is(found) => assert!(rt; found.is_none()),
     }

@@ -83,8 +83,9 @@ handed call e reply is = is
 
 other_hands_back : (sizes : Super) (call : Call) → is_read call ≡ false → EndsWith (HandsBack call) (plain ((block_calls sizes).program call))
 other_hands_back sizes call e =
-    let above : Leaves (HandsBack call) (program call) = leaves_more (HandsBack call) (OfCall call) (handed call e) (program call) (program_ends call e) in
-    ends_of (HandsBack call) (plain ((block_calls sizes).program call)) (leaves_plain (HandsBack call) ((block_calls sizes).program call) (leaves_lowered served_calls.M (layer sizes) (handlers sizes) (HandsBack call) (layer sizes).none (program call) above))
+    let asked = program sizes.version call in
+    let above : Leaves (HandsBack call) asked = leaves_more (HandsBack call) (OfCall call) (handed call e) asked (program_ends sizes.version call e) in
+    ends_of (HandsBack call) (plain ((block_calls sizes).program call)) (leaves_plain (HandsBack call) ((block_calls sizes).program call) (leaves_lowered (served_calls sizes.version).M (layer sizes) (handlers sizes) (HandsBack call) (layer sizes).none asked above))
 
 -- every call's program on the blocks hands the call back
 hands_back : (sizes : Super) (call : Call) → EndsWith (HandsBack call) (plain ((block_calls sizes).program call))

@@ -1,6 +1,5 @@
 -- When a call's program ends, the reply hands the call back: of all calls but read.
-use Rattle.image_versions.specs.declared.version.Version.TheVariants.{One}
-use Rattle.locked_world.proofs.Vocabulary.{◌≡◌, [], Bool, true, false, Reply, Call, Prog, Ret, Do, bind, plain, Machine, PartOf, LowerLayer, Handlers, lowered, Above as P, program}
+use Rattle.locked_world.proofs.Vocabulary.{◌≡◌, [], Version, Bool, true, false, Reply, Call, Prog, Ret, Do, bind, plain, Machine, PartOf, LowerLayer, Handlers, lowered, Above as P, program}
 use Rattle.plain_tree.specs.declared.call.Call.TheVariants as calls
 use Rattle.call_programs.specs.Asks.{AsksSo, Before, HandsBack, after, fresh, holding}
 use Rattle.call_programs.proofs.Calls.{calls_ask}
@@ -44,9 +43,9 @@ of_call : (call : Call) → is_read call ≡ false → (reply : Reply) → Hands
 of_call (calls.Read fd buffer) e reply is = absurd (let q = e in cc (q))
 of_call call e reply is = is
 
-ends : (call : Call) → is_read call ≡ false → (s : Before) (p : P Reply) → AsksSo One call s p → Leaves (OfCall call) p
-ends call e s (Ret r) so = of_call call e r so.0
-ends call e s (Do op m k) so = λ a. ends call e (after One call s op m k so.0 a) (k a) (so.1 a)
+ends : (v : Version) (call : Call) → is_read call ≡ false → (s : Before) (p : P Reply) → AsksSo v call s p → Leaves (OfCall call) p
+ends v call e s (Ret r) so = of_call call e r so.0
+ends v call e s (Do op m k) so = λ a. ends v call e (after v call s op m k so.0 a) (k a) (so.1 a)
 
-pub program_ends : (call : Call) → is_read call ≡ false → Leaves (OfCall call) (program call)
-program_ends call e = ends call e (holding [] fresh []) (program call) (calls_ask One call)
+pub program_ends : (v : Version) (call : Call) → is_read call ≡ false → Leaves (OfCall call) (program v call)
+program_ends v call e = ends v call e (holding [] fresh []) (program v call) (calls_ask v call)

@@ -1,7 +1,9 @@
 -- A read hands back a buffer of the length that it was given, with its own bytes after those that it read.
-use Rattle.locked_world.proofs.Vocabulary.{◌≡◌, ℕ, zero, suc, ◌+◌, ◌-◌, ◌/◌, ◌%◌, ◌≤◌, List, [], ◌++◌, length, take, drop, Option, Some, None, refl, arith, drop-append-drop, length-append, length-drop, length-take, overwrite, Dinode, Super, Read, Reply, ActOf, Handover, lowered, Prog, Ret, Do, bind, plain, LockedState, Locks, fetch, read_unless, Op, Answer, Get, Address, Direct, InTable, address, table_of, FetchedBlock, FilledMemory, filled_with, give_fetched, fetch_number, fetch_named, fetch_at, fetch_block, next_block, blocks_between, part_of, read_part, read_blocks, end_of, read_from, read_on, read_program, read_reply, own_step, say, machine, LockResult, NotLocked, LocksIt, load_unless, file_locked, give_read, read_file, with_file, Carry, handlers, record_in, layer, HandsBack, KeepsAfter, FitsBlock, EndsWith}
+use Rattle.locked_world.proofs.Vocabulary.{◌≡◌, ℕ, zero, suc, ◌+◌, ◌-◌, ◌/◌, ◌%◌, ◌≤◌, List, [], ◌++◌, length, take, drop, Option, Some, None, refl, arith, drop-append-drop, length-append, length-drop, length-take, overwrite, Dinode, Super, Read, Reply, Handover, lowered, Prog, Ret, Do, bind, plain, LockedState, Locks, fetch, read_unless, Op, Answer, Get, Address, Direct, InTable, address, table_of, FetchedBlock, FilledMemory, filled_with, give_fetched, fetch_number, fetch_named, fetch_at, fetch_block, next_block, blocks_between, part_of, read_part, read_blocks, end_of, read_from, read_on, read_program, read_reply, own_step, say, machine, LockResult, NotLocked, LocksIt, load_unless, file_locked, give_read, read_file, with_file, Carry, handlers, record_in, layer, HandsBack, KeepsAfter, FitsBlock, EndsWith}
+use Rattle.atomic_programs.specs.Joined.{Act}
 use Rattle.plain_tree.specs.declared.step.Action.TheVariants as actions
 use Rattle.fs_machine.specs.Inodes.{Refuses}
+use Rattle.inode_machine.specs.World as above
 
 -- wherever a program with marks ends
 abbrev pub Ends : {M A : Type 0} → (A → Type 0) → Prog Op Answer M A → Type 0
@@ -27,7 +29,7 @@ IsShort f = length f.bytes ≤ 1024
 
 -- as an operation on whole inodes is marked
 abbrev M : Type 0
-M = ActOf machine
+M = Act above.Op above.Answer above.Mark above.Outside
 
 fetched_short : (b : ℕ) → Ends {M = M} (λ (bytes : List ℕ). length bytes ≤ 1024) (fetch b)
 fetched_short b = λ o fits. by o fits
@@ -87,29 +89,29 @@ module _ (sizes : Super) (fd : ℕ) (buffer : List ℕ) where
   unread : (back : List ℕ) × (Read fd buffer ≡ Read fd back) × KeepsAfter 0 buffer back
   unread = (buffer, refl, (refl, refl))
 
-  replies : (c : Carry) (b : List ℕ) → length b ≤ length buffer → Ends HandsIt (lowered machine (layer sizes) (handlers sizes) c (say (read_reply fd buffer b)))
+  replies : (c : Carry) (b : List ℕ) → length b ≤ length buffer → Ends HandsIt (lowered (machine sizes.version) (layer sizes) (handlers sizes) c (say (read_reply fd buffer b)))
   replies c b few =
       let same : length (b ++ drop (length b) buffer) ≡ length buffer = omega (arith, few, length-append b (drop (length b) buffer), length-drop (length b) buffer) in
       λ a fits. (b ++ drop (length b) buffer, refl, (same, drop-append-drop (length b) buffer b (length b) (omega arith) refl))
 
-  reads : (c : Carry) (n offset : ℕ) → Ends HandsIt (lowered machine (layer sizes) (handlers sizes) c (read_on fd buffer (LocksIt n offset)))
+  reads : (c : Carry) (n offset : ℕ) → Ends HandsIt (lowered (machine sizes.version) (layer sizes) (handlers sizes) c (read_on fd buffer (LocksIt n offset)))
   reads c n offset =
-      ends_bind HandsIt Fits (read_file fd n offset (length buffer) c (λ b. own_step (actions.Read fd (length buffer)))) (λ r. lowered machine (layer sizes) (handlers sizes) r.carry (say (read_reply fd buffer r.answer)))
+      ends_bind HandsIt Fits (read_file fd n offset (length buffer) c (λ b. own_step (actions.Read fd (length buffer)))) (λ r. lowered (machine sizes.version) (layer sizes) (handlers sizes) r.carry (say (read_reply fd buffer r.answer)))
       (ends_bind Fits (AreFew (length buffer)) (read_from (record_in c n) offset (length buffer) []) (give_read fd n offset (length buffer) (λ b. own_step (actions.Read fd (length buffer))) c)
       (blocks_few (blocks_between offset (end_of (record_in c n) offset (length buffer))) (record_in c n) offset (end_of (record_in c n) offset (length buffer)) (length buffer) (record { count = 0; bytes = [] }) refl (omega arith))
       (λ f few a fits. few))
       (λ r few. replies r.carry r.answer few)
 
-  locked : (c : Carry) (a : LockedState) → Ends HandsIt (bind (file_locked sizes fd c a) (λ r. lowered machine (layer sizes) (handlers sizes) r.carry (read_on fd buffer r.answer)))
+  locked : (c : Carry) (a : LockedState) → Ends HandsIt (bind (file_locked sizes fd c a) (λ r. lowered (machine sizes.version) (layer sizes) (handlers sizes) r.carry (read_on fd buffer r.answer)))
   locked c (Refuses why) = unread
   locked c (Locks f content) =
-      ends_bind HandsIt (λ r. Unit {0}) (bind (load_unless sizes.inodestart f.number content) (with_file (LocksIt f.number f.offset) c fd f.number f.offset)) (λ r. lowered machine (layer sizes) (handlers sizes) r.carry (read_on fd buffer r.answer))
+      ends_bind HandsIt (λ r. Unit {0}) (bind (load_unless sizes.inodestart f.number content) (with_file (LocksIt f.number f.offset) c fd f.number f.offset)) (λ r. lowered (machine sizes.version) (layer sizes) (handlers sizes) r.carry (read_on fd buffer r.answer))
       (ends_any (bind (load_unless sizes.inodestart f.number content) (with_file (LocksIt f.number f.offset) c fd f.number f.offset)))
       (λ r u. any r.carry r.answer)
     where
-      any : (c : Carry) (a : LockResult) → Ends HandsIt (lowered machine (layer sizes) (handlers sizes) c (read_on fd buffer a))
+      any : (c : Carry) (a : LockResult) → Ends HandsIt (lowered (machine sizes.version) (layer sizes) (handlers sizes) c (read_on fd buffer a))
       any c (NotLocked why) = unread
       any c (LocksIt n offset) = reads c n offset
 
-  pub read_hands_back : (c : Carry) → EndsWith HandsIt (plain (lowered machine (layer sizes) (handlers sizes) c (read_program fd buffer)))
-  read_hands_back c = ends_plain HandsIt (lowered machine (layer sizes) (handlers sizes) c (read_program fd buffer)) (λ a fits. locked c a)
+  pub read_hands_back : (c : Carry) → EndsWith HandsIt (plain (lowered (machine sizes.version) (layer sizes) (handlers sizes) c (read_program fd buffer)))
+  read_hands_back c = ends_plain HandsIt (lowered (machine sizes.version) (layer sizes) (handlers sizes) c (read_program fd buffer)) (λ a fits. locked c a)

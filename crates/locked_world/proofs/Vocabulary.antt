@@ -1,11 +1,11 @@
 -- What this crate's proofs speak of: its own definitions, and what the crates below and the library call things.
-pub use Rattle.calls_on_blocks.proofs.Vocabulary.{ActOf, Answer, Began, Begins, Bool, ExecResult, DidEnd, Do, Event as EventOf, Fails, Get, Handlers, IsOutsideLog, IsWholeLog, List, LockResult, LocksIt, LogPart, None, NotLocked, Op, Option, Other, Outside, P as Above, PartOf, Passes, Ran, Refusal, Refuses, Replied, Ret, SeatState, SharedState, Shown, Shows, Some, Start, Started as IsBegun, Step, Stops, Theory, Waits, [], ap, append_assoc, arith, begin_in, block_at, block_calls, block_code, child_of, exec_result_in, false, first, fresh as fresh_state, get_or, got_by, handlers, if◌then◌else◌, in_log, inl, inr, inv_of, layer, length, length-set, machine, map, mounts_show_their_trees, nat_lt, nat_tests, own_step, program, read_block, read_on, read_reply, refl, say, served_calls, slice_set, sound_fresh, sound_keeps, subst, suc, sym, take, take_more, true, zero, ℕ, ◌++◌, ◌+◌, ◌-◌, ◌/◌, ◌<◌, ◌==◌, ◌∙◌, ◌∷◌, ◌≡◌, ◌≢◌, ◌≤◌}
+pub use Rattle.calls_on_blocks.proofs.Vocabulary.{Answer, Began, Begins, Bool, ExecResult, DidEnd, Do, Event as EventOf, Fails, Get, Handlers, IsOutsideLog, IsWholeLog, List, LockResult, LocksIt, LogPart, None, NotLocked, Op, Option, Other, Outside, P as Above, PartOf, Passes, Ran, Refusal, Refuses, Replied, Ret, SeatState, SharedState, Shown, Shows, Some, Start, Started as IsBegun, Step, Stops, Theory, Version, Waits, [], ap, append_assoc, arith, begin_in, block_at, block_calls, block_code, child_of, exec_result_in, false, first, fresh as fresh_state, get_or, got_by, handlers, if◌then◌else◌, in_log, inl, inr, inv_of, layer, length, length-set, machine, map, mounts_show_their_trees, nat_lt, nat_tests, own_step, program, read_block, read_on, read_reply, refl, say, served_calls, slice_set, sound_fresh, sound_keeps, subst, suc, sym, take, take_more, tree_in, true, zero, ℕ, ◌++◌, ◌+◌, ◌-◌, ◌/◌, ◌<◌, ◌==◌, ◌∙◌, ◌∷◌, ◌≡◌, ◌≢◌, ◌≤◌}
 unfoldable pub use Rattle.calls_on_blocks.proofs.Vocabulary.{May, exec, get_of, put, sizes_of}
 pub use Rattle.inodes_on_blocks.proofs.Vocabulary.{BlockInHand as FetchedBlock, Carry, FilledMemory, GetLaws, Handover, IfSome, LockedState, Locks, LowerLayer, Machine, Prog, State, address, bind, block_len, blocks_between, drop, end_of, fetch, fetch_at, fetch_block, fetch_named, fetch_number, file_locked, filled_with, get_laws, get_or_past, give_fetched, give_read, kept, length-append, length-take, load_unless, next_block, overwrite, part_of, read_file, read_from, read_part, read_unless, record_in, replicate, seen_of, slice_get_past, table_of, take-append-drop, unwrap_or, ◌%◌}
 unfoldable pub use Rattle.inodes_on_blocks.proofs.Vocabulary.{read_blocks}
 pub use Rattle.hart_core.proofs.Vocabulary.{AllAnswer, Answers, DidWait, HartsOf, IsMounted, Makes, MayOf, OutcomeOf, P, Plain, PlainMade, Refused, Rests, Running, SoundPlain, Started, WorldOf, all_shown, begun_here, calls_of, came_of, changed, event_of, is_called as is_some, is_code, lawful, nat_eq, outcome_of, plain, plain_begun, plain_makes, plain_moved, plain_prog, plain_run, plain_start, plain_step, plain_tried, plain_unless, program_at, reason_of, shared_of, shown, shown_outcome, sound_may, with_answer}
 unfoldable pub use Rattle.hart_core.proofs.Vocabulary.{running_of}
-pub use Rattle.locked_world.specs.Vocabulary.{CallsOnce, ComesByCalls, Fuse, IsFusedCall, Stop}
+pub use Rattle.locked_world.specs.Vocabulary.{CallsOnce, ComesByCalls, Fuse, IsExplained, IsFusedCall, Stop, trace_in}
 pub use Rattle.fs_layout.proofs.Vocabulary.{get_or-set_other, get_or-set_same, length-drop}
 pub use Rattle.inode_machine.proofs.Vocabulary.{ClaimResult, EntryResult, InPlace, New, NoBlock, NoInode, NoPlace, NoSlot, read_program}
 pub use Rattle.locked_world.specs.HandedBack.{EndsWith, FitsBlock, HandsBack, KeepsAfter, SpareFits, read_count}

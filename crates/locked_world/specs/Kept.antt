@@ -1,7 +1,7 @@
 -- What is kept under a lock: an image, a fuse, and the events with their outcomes, beside the world that they made;
 -- and what remains of it.
 use Rattle.std.specs.Prelude.{◌≡◌, ◌⊎◌, ℕ, ◌+◌, ◌<◌, ◌==◌, if◌then◌else◌, List, [], ◌∷◌, ◌++◌, length, Option, None, slice_index_or, get_or}
-use Rattle.locked_world.specs.Vocabulary.{blocks_of, ComesByCalls, Fuse, IsFusedCall, tree_in, Reply, Call, Shown, Started, Replied, Other, Event, Came, all_shown, trace_in, IsMounted, HasHistory, FoundRoom, NoneClimbs, OneHart, IsExplained, WorldOf, calls_of}
+use Rattle.locked_world.specs.Vocabulary.{blocks_of, ComesByCalls, Fuse, IsFusedCall, tree_in, version_in, Reply, Call, Shown, Started, Replied, Other, Event, Came, all_shown, trace_in, IsMounted, HasHistory, FoundRoom, NoneClimbs, OneHart, IsExplained, WorldOf, calls_of}
 use Rattle.locked_world.specs.HandedBack.{SpareFits}
 
 pub record StoredRun : Type 0 where
@@ -75,7 +75,7 @@ LeavesDisk s bytes = (w : WorldOf Fuse) × IsRunOf s w × (bytes ≡ (device_of 
 abbrev pub OneListExplains : (s : StoredRun) (w : WorldOf Fuse) → IsRunOf s w → Type 0
 OneListExplains s w run =
     FoundRoom contents failures run.first run.history.0 → NoneClimbs (trace_in s.events s.outcomes) ⊎ OneHart (trace_in s.events s.outcomes)
-    → IsExplained (tree_in (blocks_of s.image)) (trace_in s.events s.outcomes)
+    → IsExplained (version_in (blocks_of s.image)) (tree_in (blocks_of s.image)) (trace_in s.events s.outcomes)
 
 -- A run left this disk; and whichever run it is, it is explained.
 abbrev pub HasOneHistory : ClosedRun → Type 0

@@ -1,5 +1,5 @@
 -- What the crates below call things: the words that this crate's definitions and contracts use.
-pub use Rattle.hart_core.specs.Vocabulary.{Answer, CallsOnce, ComesByCalls, Op, Other, P, Replied, Shown, StartOf, Started, StepOf, tree_in}
+pub use Rattle.hart_core.specs.Vocabulary.{Answer, CallsOnce, ComesByCalls, Op, Other, P, Replied, Shown, StartOf, Started, StepOf, tree_in, version_in}
 pub use Rattle.inode_table.specs.Vocabulary.{Do, Ret, block_len}
 pub use Rattle.hart_core.specs.declared.events.Came.{Came}
 pub use Rattle.hart_core.specs.declared.events.Event.{Event}

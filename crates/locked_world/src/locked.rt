@@ -1,7 +1,7 @@
 //! The value under the kernel's lock. It is a run of its stored list, and changes by one event at a time.
 ghost use Rattle.std.specs.Prelude.{◌≡◌, ◌≢◌, ◌<◌, ◌≤◌, ◌+◌, ◌∷◌, [], Some, None, IfOk, IfErr, IfNone, IfSome, MatchOption, All, map, sum_by, length, slice_get, slice_set, get_or};
 ghost use Rattle.block_device.specs.Blocks.{blocks_of};
-ghost use Rattle.image_tree.specs.VersionOne.{IsWellFormed, JudgesFault};
+ghost use Rattle.image_tree.specs.Images.{IsWellFormed, JudgesFault};
 ghost use Rattle.hart_core.specs.Runs.{IsMounted, all_shown, shown};
 ghost use Rattle.locked_world.specs.Kept.{opened, closed_of, contents, failures, disk_of, count_of, replies_of, replies_in, replied_by, IsRun, HasOneHistory, LeavesDisk, ComesFromImage, device_of};
 ghost use Rattle.locked_world.specs.Told.{Answers, StartAnswers, halt_for};

@@ -166,13 +166,13 @@ module _ (v : Version) (size ninodes : ℕ) (nodes : List Node) (h : IsLaid size
   pub sizes-same : sizes_of (new_disk v size ninodes nodes) ≡ sizes_of (files_disk v size ninodes nodes)
   sizes-same = sizes_of-same (files_disk v size ninodes nodes) (new_disk v size ninodes nodes) (block-same 1 (inl (omega arith)))
 
-  pub sizes-new : sizes_of (new_disk v size ninodes nodes) ≡ super_for size ninodes
+  pub sizes-new : sizes_of (new_disk v size ninodes nodes) ≡ super_for v size ninodes
   sizes-new = sizes-same ∙ sizes-there v size ninodes (plains nodes) h.many (plains-fit size ninodes nodes h)
 
   pub head-same : block_at (new_disk v size ninodes nodes) (sizes_of (new_disk v size ninodes nodes)).logstart
       ≡ block_at (files_disk v size ninodes nodes) (sizes_of (files_disk v size ninodes nodes)).logstart
   head-same =
-      let files : sizes_of (files_disk v size ninodes nodes) ≡ super_for size ninodes = sizes-there v size ninodes (plains nodes) h.many (plains-fit size ninodes nodes h) in
+      let files : sizes_of (files_disk v size ninodes nodes) ≡ super_for v size ninodes = sizes-there v size ninodes (plains nodes) h.many (plains-fit size ninodes nodes h) in
       ap (λ (s : Super). block_at (new_disk v size ninodes nodes) s.logstart) sizes-new
       ∙ block-same 2 (inl (omega arith))
       ∙ ap (λ (s : Super). block_at (files_disk v size ninodes nodes) s.logstart) (sym files)

@@ -19,7 +19,7 @@ pub use Rattle.image_tree.specs.Inodes.{content_of, is_directory, is_live, last,
 unfoldable pub use Rattle.image_tree.specs.Inodes.{inode_of, is_live_directory, is_node}
 pub use Rattle.image_tree.specs.Reads.{OnlyReads}
 pub use Rattle.image_tree.specs.Trees.{tree_in}
-pub use Rattle.image_tree.specs.Versions.{version_of}
+pub use Rattle.fs_layout.specs.Recovered.{version_in}
 unfoldable pub use Rattle.image_tree.specs.Vocabulary.{sizes_of}
 pub use Rattle.image_tree.specs.declared.fault.MountFault.{MountFault}
 pub use Rattle.mkfs.specs.Image.{free_inodes, zero_blocks}

@@ -1,6 +1,6 @@
 //! Migrating an image.
 ghost use Rattle.std.specs.Prelude.{◌≡◌, MatchResult};
-ghost use Rattle.migration.specs.Vocabulary.{ComesByCalls, OnlyReads, version_of};
+ghost use Rattle.migration.specs.Vocabulary.{ComesByCalls, OnlyReads, version_in};
 ghost use Rattle.migration.specs.Migrated.{IsMigrated};
 ghost use Rattle.migration.specs.Refusals.{IsFirstRefusal, IsFirstRefusalOfAny, faults_with, least_size};
 
@@ -44,8 +44,8 @@ pub fn migrate<D: Device>(
     size: u32,
 ) -> Result<MemoryDisk, MigrateRefused>
     ensures made { MatchResult result
-        (IsMigrated (version_of (D.contents old.old)) version size (D.contents old.old))
-        (IsFirstRefusal (version_of (D.contents old.old)) version size (D.contents old.old)) }
+        (IsMigrated (version_in (D.contents old.old)) version size (D.contents old.old))
+        (IsFirstRefusal (version_in (D.contents old.old)) version size (D.contents old.old)) }
     ensures device { OnlyReads D.contents D.failures (faults_with result) old.old old.new }
     ensures calls { ComesByCalls D.Called old.old old.new }
 {
@@ -62,8 +62,8 @@ pub fn least_size<D: Device>(
     version: Version,
 ) -> Result<usize, MigrateRefused>
     ensures least { MatchResult result
-        (λ least. least ≡ least_size (version_of (D.contents old.old)) version (D.contents old.old))
-        (IsFirstRefusalOfAny (version_of (D.contents old.old)) version (D.contents old.old)) }
+        (λ least. least ≡ least_size (version_in (D.contents old.old)) version (D.contents old.old))
+        (IsFirstRefusalOfAny (version_in (D.contents old.old)) version (D.contents old.old)) }
     ensures device { OnlyReads D.contents D.failures (faults_with result) old.old old.new }
     ensures calls { ComesByCalls D.Called old.old old.new }
 {

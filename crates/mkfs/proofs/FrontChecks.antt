@@ -5,8 +5,8 @@ use Rattle.mkfs.proofs.ShownInodes.{IsKind, at-inodes, inode-shown}
 
 -- ---- the superblock
 
-good-super : (size ninodes : ℕ) (nodes : List Node) → 2 ≤ ninodes → ninodes ≤ 65535 → Fits size ninodes nodes → IsGoodSuper (super_for size ninodes)
-good-super size ninodes nodes some few fits = record {
+good-super : (v : Version) (size ninodes : ℕ) (nodes : List Node) → 2 ≤ ninodes → ninodes ≤ 65535 → Fits size ninodes nodes → IsGoodSuper (super_for v size ninodes)
+good-super v size ninodes nodes some few fits = record {
   size = fits.few;
   logstart = omega arith;
   nlog = omega arith;
@@ -21,7 +21,7 @@ pub has_super : (v : Version) (disk : List (List ℕ)) (size ninodes : ℕ) (nod
     → Shows disk size ninodes nodes → 2 ≤ ninodes → ninodes ≤ 65535 → Fits size ninodes nodes
     → HasSuper v disk
 has_super v disk size ninodes nodes magic shows some few fits =
-    (magic, subst IsGoodSuper (sym shows.sizes) (good-super size ninodes nodes some few fits))
+    (magic, subst IsGoodSuper (sym shows.sizes) (good-super (sizes_of disk).version size ninodes nodes some few fits))
 
 pub has_blocks : (disk : List (List ℕ)) (size ninodes : ℕ) (nodes : List Node) → Shows disk size ninodes nodes → (sizes_of disk).size ≤ length disk
 has_blocks disk size ninodes nodes shows =

@@ -1,5 +1,5 @@
 -- What an image shows of its nodes.
-use Rattle.mkfs.proofs.Vocabulary.{Version, ◌≡◌, ℕ, ◌≤◌, List, length, All, Node, nodes_with, root_content, CanBeMade}
+use Rattle.mkfs.proofs.Vocabulary.{Version, ◌≡◌, ◌∙◌, ap, sym, ℕ, ◌≤◌, List, length, All, Super, super_for, Node, nodes_with, root_content, CanBeMade}
 use Rattle.mkfs.proofs.Basics.{Fits, disk_of, length-disk, sizes-there, count-there, log-empty, recovered-there, Shows}
 use Rattle.mkfs.proofs.Records.{IsNode, are-nodes}
 use Rattle.mkfs.proofs.Wanted.{fits}
@@ -13,7 +13,9 @@ pub shows : (v : Version) (size ninodes : ℕ) (nodes : List Node) → ninodes �
     → Shows (disk_of v size ninodes nodes) size ninodes nodes
 shows v size ninodes nodes few h all = record {
   long = length-disk v size ninodes nodes h;
-  sizes = sizes-there v size ninodes nodes few h;
+  sizes =
+      let there = sizes-there v size ninodes nodes few h in
+      there ∙ ap (λ (s : Super). super_for s.version size ninodes) (sym there);
   count = count-there v size ninodes nodes few h;
   empty = log-empty v size ninodes nodes few h;
   stands = λ b. recovered-there v size ninodes nodes b few h;

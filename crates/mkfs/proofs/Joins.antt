@@ -20,11 +20,11 @@ used-parts first root contents =
     regroup first n (file_blocks contents) ∙ ap (λ (k : ℕ). first + k) (sym sum)
 
 pub front-parts : (v : Version) (old : List ℕ) (size ninodes : ℕ)
-    → ((old ++ replicate block_len 0) ++ padded block_len (spell_super v (super_for size ninodes))) ++ replicate 31744 0 ≡ old ++ front v size ninodes
+    → ((old ++ replicate block_len 0) ++ padded block_len (spell_super (super_for v size ninodes))) ++ replicate 31744 0 ≡ old ++ front v size ninodes
 unfolding front
 front-parts v old size ninodes =
     let a : List ℕ = replicate block_len 0 in
-    let b : List ℕ = padded block_len (spell_super v (super_for size ninodes)) in
+    let b : List ℕ = padded block_len (spell_super (super_for v size ninodes)) in
     let c : List ℕ = replicate 31744 0 in
     ap (λ (xs : List ℕ). xs ++ c) (append_assoc old a b) ∙ append_assoc old (a ++ b) c
 

@@ -9,14 +9,14 @@ use Rattle.mkfs.proofs.Padding.{length-padded, length-whole, length-addrs, node_
 pub length-zeros : (n : ℕ) → length {A = ℕ} (replicate n 0) ≡ n
 length-zeros n = let none : ℕ = 0 in length-replicate n none
 
-pub length-super : (v : Version) (size ninodes : ℕ) → length (spell_super v (super_for size ninodes)) ≡ 32
-length-super v size ninodes = length-u32s_bytes (magic_of v ∷ super_numbers (super_for size ninodes))
+pub length-super : (v : Version) (size ninodes : ℕ) → length (spell_super (super_for v size ninodes)) ≡ 32
+length-super v size ninodes = length-u32s_bytes (magic_of v ∷ super_numbers (super_for v size ninodes))
 
 pub length-front : (v : Version) (size ninodes : ℕ) → length (front v size ninodes) ≡ 33792
 unfolding front
 length-front v size ninodes =
-    let block : List ℕ = padded block_len (spell_super v (super_for size ninodes)) in
-    let one : length block ≡ block_len = length-padded block_len (spell_super v (super_for size ninodes)) (omega (arith, length-super v size ninodes)) in
+    let block : List ℕ = padded block_len (spell_super (super_for v size ninodes)) in
+    let one : length block ≡ block_len = length-padded block_len (spell_super (super_for v size ninodes)) (omega (arith, length-super v size ninodes)) in
     omega (arith, length-append (replicate block_len 0 ++ block) (replicate 31744 0), length-append (replicate block_len 0) block, one, length-zeros block_len, length-zeros 31744)
 
 count-inodes : (first : ℕ) (nodes : List Node) → length (inodes_from first nodes) ≡ length nodes

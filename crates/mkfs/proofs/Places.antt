@@ -22,7 +22,7 @@ regroup z s l t b d f = simp append_assoc
 
 -- the superblock's block
 super_block : Version → ℕ → ℕ → List ℕ
-super_block v size ninodes = padded block_len (spell_super v (super_for size ninodes))
+super_block v size ninodes = padded block_len (spell_super (super_for v size ninodes))
 
 -- what follows the log
 behind : ℕ → ℕ → List Node → List ℕ
@@ -34,12 +34,12 @@ split : (v : Version) (size ninodes : ℕ) (nodes : List Node)
     → image_with v size ninodes nodes ≡ replicate block_len 0 ++ (super_block v size ninodes ++ (replicate 31744 0 ++ behind size ninodes nodes))
 unfolding image_with front super_block behind
 split v size ninodes nodes =
-    regroup (replicate block_len 0) (padded block_len (spell_super v (super_for size ninodes))) (replicate 31744 0) (inode_table ninodes (data_start ninodes) nodes)
+    regroup (replicate block_len 0) (padded block_len (spell_super (super_for v size ninodes))) (replicate 31744 0) (inode_table ninodes (data_start ninodes) nodes)
     (bitmap (used_by (data_start ninodes) nodes)) (data_from (data_start ninodes) nodes) (replicate (block_len * (size - used_by (data_start ninodes) nodes)) 0)
 
 length-super_block : (v : Version) (size ninodes : ℕ) → length (super_block v size ninodes) ≡ block_len
 unfolding super_block
-length-super_block v size ninodes = length-padded block_len (spell_super v (super_for size ninodes)) (omega (arith, length-super v size ninodes))
+length-super_block v size ninodes = length-padded block_len (spell_super (super_for v size ninodes)) (omega (arith, length-super v size ninodes))
 
 -- ---- the superblock
 
@@ -54,13 +54,13 @@ block-one v size ninodes nodes h =
 
 -- it can be read back
 super-read : (v : Version) (size ninodes : ℕ) → size ≤ most_disk_blocks → ninodes ≤ 65535
-    → (eqb (u32_at (super_block v size ninodes) 0) (magic_of v) ≡ true) × (super_fields (super_block v size ninodes) ≡ super_for size ninodes)
+    → (eqb (u32_at (super_block v size ninodes) 0) (magic_of v) ≡ true) × (super_fields (super_block v size ninodes) ≡ super_for v size ninodes)
 unfolding super_block padded
 super-read v size ninodes h n =
-    let s : Super = super_for size ninodes in
-    let rest : List ℕ = replicate (block_len - length (spell_super v s)) 0 in
+    let s : Super = super_for v size ninodes in
+    let rest : List ℕ = replicate (block_len - length (spell_super s)) 0 in
     let small : IsSuper s = (omega arith, (omega arith, (omega arith, (omega arith, (omega arith, (omega arith, (omega arith, tt))))))) in
-    some_from (eqb (u32_at (spell_super v s ++ rest) 0) (magic_of v)) (super_fields (spell_super v s ++ rest)) s (super_of-spell v s rest small)
+    some_from (eqb (u32_at (spell_super s ++ rest) 0) (magic_of v)) (super_fields (spell_super s ++ rest)) s (super_of-spell s rest small)
 
 pub magic-there : (v : Version) (size ninodes : ℕ) (nodes : List Node) → ninodes ≤ 65535 → Fits size ninodes nodes
     → u32_at (block_at (disk_of v size ninodes nodes) 1) 0 ≡ magic_of v
@@ -68,7 +68,7 @@ magic-there v size ninodes nodes n h =
     ap (λ (block : List ℕ). u32_at block 0) (block-one v size ninodes nodes h)
     ∙ eqb-true (u32_at (super_block v size ninodes) 0) (magic_of v) (super-read v size ninodes h.few n).0
 
-pub sizes-there : (v : Version) (size ninodes : ℕ) (nodes : List Node) → ninodes ≤ 65535 → Fits size ninodes nodes → sizes_of (disk_of v size ninodes nodes) ≡ super_for size ninodes
+pub sizes-there : (v : Version) (size ninodes : ℕ) (nodes : List Node) → ninodes ≤ 65535 → Fits size ninodes nodes → sizes_of (disk_of v size ninodes nodes) ≡ super_for v size ninodes
 unfolding sizes_of
 sizes-there v size ninodes nodes n h = ap super_fields (block-one v size ninodes nodes h) ∙ (super-read v size ninodes h.few n).1
 

@@ -14,7 +14,7 @@ pub record IsRange (numbers : List ℕ) (first count : ℕ) : Type 0 where
 
 pub record Shows (disk : List (List ℕ)) (size ninodes : ℕ) (nodes : List Node) : Type 0 where
   pub long : length disk ≡ size
-  pub sizes : sizes_of disk ≡ super_for size ninodes
+  pub sizes : sizes_of disk ≡ super_for (sizes_of disk).version size ninodes
   pub count : log_count disk ≡ 0
   pub empty : logged disk ≡ []
   pub stands : (b : ℕ) → recovered disk b ≡ block_at disk b

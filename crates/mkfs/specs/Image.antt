@@ -132,7 +132,7 @@ blocks_before i nodes = sum_by blocks_of_node (take i nodes)
 
 -- boot block, superblock and log, which is empty
 unfoldable pub front : Version → ℕ → ℕ → List ℕ
-front v size ninodes = zero_blocks 1 ++ padded block_len (spell_super v (super_for size ninodes)) ++ zero_blocks log_blocks
+front v size ninodes = zero_blocks 1 ++ padded block_len (spell_super (super_for v size ninodes)) ++ zero_blocks log_blocks
 
 -- an image with these nodes, and after them the free blocks
 unfoldable pub image_with : Version → ℕ → ℕ → List Node → List ℕ

@@ -26,8 +26,9 @@ abbrev pub data_start : ℕ → ℕ
 data_start ninodes = bitmap_start ninodes + 1
 
 -- the superblock
-abbrev pub super_for : ℕ → ℕ → Super
-super_for size ninodes = record {
+abbrev pub super_for : Version → ℕ → ℕ → Super
+super_for v size ninodes = record {
+  version = v;
   size = size;
   nblocks = size - data_start ninodes;
   ninodes = ninodes;

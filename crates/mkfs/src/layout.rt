@@ -37,13 +37,14 @@ pub fn data_start(ninodes: u32) -> u32
     INODE_START + ninodes / INODES_PER_BLOCK as u32 + 2
 }
 
-/// The superblock of an image that has room for its parts.
-pub fn super_for(size: u32, ninodes: u32) -> Super
+/// The superblock of an image of this version that has room for its parts.
+pub fn super_for(version: Version, size: u32, ninodes: u32) -> Super
     requires { data_start ninodes ≤ size }
-    ensures { result ≡ super_for size ninodes }
+    ensures { result ≡ super_for version size ninodes }
 {
     let data = data_start(ninodes);
     Super {
+        version,
         size,
         nblocks: size - data,
         ninodes,

@@ -72,7 +72,7 @@ pub fn push_front(
     ensures { OnOk result (image.new.items ≡ image.old.items ++ front version size ninodes) }
 {
     push_many(image, BLOCK_LEN, 0)?;
-    push_super(image, version, &super_for(size, ninodes))?;
+    push_super(image, &super_for(version, size, ninodes))?;
     push_many(image, BLOCK_LEN * LOG_BLOCKS as usize, 0)
 }
 
@@ -180,7 +180,7 @@ pub fn made_front()
         → length (blocks_of (image_of v size ninodes names contents)) ≡ size }
     ensures superblock { (v : Version) (size ninodes : ℕ) (names contents : List (List ℕ)) → length names ≡ length contents
         → CanBeMade v size ninodes names contents
-        → sizes_of (blocks_of (image_of v size ninodes names contents)) ≡ super_for size ninodes }
+        → sizes_of (blocks_of (image_of v size ninodes names contents)) ≡ super_for v size ninodes }
     ensures log { (v : Version) (size ninodes : ℕ) (names contents : List (List ℕ)) → length names ≡ length contents
         → CanBeMade v size ninodes names contents
         → logged (blocks_of (image_of v size ninodes names contents)) ≡ [] }

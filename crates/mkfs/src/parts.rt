@@ -15,15 +15,11 @@ use image_versions::widths::DIRECT;
 use std::alloc::AllocError;
 
 /// Appends the superblock's block.
-pub fn push_super(
-    image: &mut Vec<u8>,
-    version: Version,
-    superblock: &Super,
-) -> Result<(), AllocError>
-    ensures { OnOk result (image.new.items ≡ image.old.items ++ padded block_len (spell_super version superblock.now)) }
+pub fn push_super(image: &mut Vec<u8>, superblock: &Super) -> Result<(), AllocError>
+    ensures { OnOk result (image.new.items ≡ image.old.items ++ padded block_len (spell_super superblock.now)) }
 {
     let mut block = [0; BLOCK_LEN];
-    write_super(version, &mut block, superblock);
+    write_super(&mut block, superblock);
     image.extend_from_slice(&block)
 }
 

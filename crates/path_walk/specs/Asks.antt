@@ -2,8 +2,8 @@
 use Rattle.std.specs.Prelude.{ℕ, Bool, true, false, List, [], ◌++◌, take, Option, Some, None}
 use Rattle.path_walk.specs.Vocabulary.{option_map, Action, Cause, BadDescriptor, piece, Reply, CallAnswer, Call, Ret, Do, Op, Answer, P, file_for}
 use Rattle.plain_tree.specs.declared.step.Action.TheVariants as steps
-use Rattle.path_walk.specs.Elements.{name_in, IsInOne}
-use Rattle.path_walk.specs.VersionOne.{IsElement}
+use Rattle.image_versions.specs.declared.version.Version.{Version}
+use Rattle.path_walk.specs.Elements.{name_in, IsElement, IsInOne}
 use Rattle.inode_machine.specs.Inodes as whole
 use Rattle.tree_laws.specs.Moves as moves
 use Rattle.inode_machine.specs.World as world
@@ -79,18 +79,18 @@ op_in path ask.Leave = world.Leave
 op_in path ask.Say = world.Say
 
 -- a name that is sought or entered is an element of the path
-abbrev pub IsSought : List ℕ → Query → Type 0
-IsSought path query.Nothing = Unit {0}
-IsSought path (query.Name e) = IsElement path e
-IsSought path query.Entries = Unit {0}
+abbrev pub IsSought : Version → List ℕ → Query → Type 0
+IsSought v path query.Nothing = Unit {0}
+IsSought v path (query.Name e) = IsElement v path e
+IsSought v path query.Entries = Unit {0}
 
 -- .. and no bytes are read or written
-abbrev pub IsNamed : List ℕ → Ask → Type 0
-IsNamed path (ask.Take n q) = IsSought path q
-IsNamed path (ask.Enter d e n) = IsElement path e
-IsNamed path (ask.ReadFile fd n offset count) = ⊥
-IsNamed path (ask.WriteFile fd n offset i) = ⊥
-IsNamed path a = Unit {0}
+abbrev pub IsNamed : Version → List ℕ → Ask → Type 0
+IsNamed v path (ask.Take n q) = IsSought v path q
+IsNamed v path (ask.Enter d e n) = IsElement v path e
+IsNamed v path (ask.ReadFile fd n offset count) = ⊥
+IsNamed v path (ask.WriteFile fd n offset i) = ⊥
+IsNamed v path a = Unit {0}
 
 -- of two texts, the first of which is this, such a name is in one
 abbrev pub IsSoughtInOne : List ℕ → Query → Type 0
@@ -104,8 +104,8 @@ AsksInOne first (ask.Enter d e n) = IsInOne first e
 AsksInOne first a = Unit {0}
 
 -- one text is after the other
-abbrev pub IsNamedInTwo : List ℕ → List ℕ → Ask → Type 0
-IsNamedInTwo first second a = IsNamed (first ++ second) a × AsksInOne first a
+abbrev pub IsNamedInTwo : Version → List ℕ → List ℕ → Ask → Type 0
+IsNamedInTwo v first second a = IsNamed v (first ++ second) a × AsksInOne first a
 
 -- a name is sought at most
 abbrev pub OnlySeeks : Ask → Type 0

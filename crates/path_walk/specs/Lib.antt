@@ -3,4 +3,3 @@ pub mod Asks
 pub mod Elements
 pub mod Names
 pub mod Walks
-pub mod VersionOne

@@ -1,5 +1,6 @@
 //! What a call asks of whole inodes, and what it hears.
 ghost use Rattle.std.specs.Prelude.{◌≡◌, ◌<◌, ◌+◌, ◌^◌, ◌++◌, ℕ, List, length, false};
+ghost use Rattle.image_versions.specs.declared.version.Version.{Version};
 ghost use Rattle.path_walk.specs.Asks.{at_in, bool_in, checked_in, claimed_in, claimed_of, count_in, doubled_in, entered_in, entered_of, face_in_stat, joined_in, joined_of, loan_in, loan_of, locked_in, locked_of, number_in, op_in, shut_in, sight_in, sight_of, start_in, with_face, wrote_in, wrote_of, IsNamed, IsNamedInTwo, OnlySeeks};
 
 use crate::elements::Element;
@@ -73,10 +74,10 @@ pub enum Ask {
 impl Ask {
     /// The same with this number of bytes before the path in which a name is sought.
     pub fn shifted(self, by: usize) -> Ask
-        ensures op { (front path : List ℕ) → length front ≡ by → length front + length path < 2 ^ 64 → OnlySeeks self → IsNamed path self
-            → op_in (front ++ path) result ≡ op_in path self }
-        ensures named { (front path : List ℕ) → length front ≡ by → length front + length path < 2 ^ 64 → OnlySeeks self → IsNamed path self
-            → IsNamedInTwo front path result }
+        ensures op { (v : Version) (front path : List ℕ) → length front ≡ by → length front + length path < 2 ^ 64 → OnlySeeks self
+            → IsNamed v path self → op_in (front ++ path) result ≡ op_in path self }
+        ensures named { (v : Version) (front path : List ℕ) → length front ≡ by → length front + length path < 2 ^ 64 → OnlySeeks self
+            → IsNamed v path self → IsNamedInTwo v front path result }
     {
         match self {
             Ask::Take(number, Query::Name(element)) => {

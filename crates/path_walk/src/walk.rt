@@ -1,5 +1,6 @@
 //! A path walked, from directory to directory.
 ghost use Rattle.std.specs.Prelude.{◌≡◌, ◌≢◌, ◌≤◌, ◌+◌, ℕ, All, List, Option, Some, drop, length};
+ghost use Rattle.image_versions.specs.declared.version.Version.{Version};
 ghost use Rattle.path_walk.specs.Vocabulary.{elements, Action, is_directory_face, is_live_face, face_or, Call, stopped};
 ghost use Rattle.path_walk.specs.Asks.{asks, hears, mark_at, marked_as, op_in, sight_of, reply_to, face_of, IsNamed, OnlySeeks};
 ghost use Rattle.path_walk.specs.Walks.{After, Stands, StandsAt, elements_from, most_left, most_walked, onward, walk_of, walked_to, stop_of};
@@ -60,16 +61,23 @@ pub enum Walked {
 
 /// On from a directory, at this place of the path.
 #[inline(always)]
-fn onward(walk: &mut Walk, goal: Goal, directory: u32, path: &[u8], rest: usize) -> Walked
+fn onward(
+    version: Version,
+    walk: &mut Walk,
+    goal: Goal,
+    directory: u32,
+    path: &[u8],
+    rest: usize,
+) -> Walked
     requires rest { rest ≤ length path.now }
     requires nonzero { All (λ b. b ≢ 0) path.now }
     ensures goes { (s : Action) (after : After) (list : List ℕ)
-        → walked_to s path.now after goal list walk.new result
-        ≡ onward s path.now after goal directory (elements (drop rest path.now)) list }
-    ensures most { most_walked path.now walk.new result ≤ elements_from path.now rest }
-    ensures stands { StandsAt path.now walk.new result }
+        → walked_to version s path.now after goal list walk.new result
+        ≡ onward version s path.now after goal directory (elements version (drop rest path.now)) list }
+    ensures most { most_walked version path.now walk.new result ≤ elements_from version path.now rest }
+    ensures stands { StandsAt version path.now walk.new result }
 {
-    match (goal, next_element(Version::One, path, rest)) {
+    match (goal, next_element(version, path, rest)) {
         (Goal::Inside, None) => Walked::Reached(directory, None),
         (Goal::Inside, Some(element)) => {
             *walk = Walk::Look(directory, element);
@@ -77,7 +85,7 @@ fn onward(walk: &mut Walk, goal: Goal, directory: u32, path: &[u8], rest: usize)
         }
         (Goal::Parent, None) => Walked::Lost(Lost::NotThere),
         (Goal::Parent, Some(element)) => {
-            *walk = match next_element(Version::One, path, element.rest) {
+            *walk = match next_element(version, path, element.rest) {
                 None => Walk::See(directory, element),
                 Some(_) => Walk::Look(directory, element),
             };
@@ -103,9 +111,9 @@ pub fn is_live(sight: &Sight) -> bool
 impl Walk {
     #[inline(always)]
     pub fn ask(&self, path: &[u8]) -> Ask
-        ensures asks { (s : Action) (after : After) (goal : Goal) (list : List ℕ)
-            → asks (walk_of s path.now after goal list self.now) ≡ Some (op_in path.now result) }
-        ensures named { Stands path.now self.now → IsNamed path.now result }
+        ensures asks { (v : Version) (s : Action) (after : After) (goal : Goal) (list : List ℕ)
+            → asks (walk_of v s path.now after goal list self.now) ≡ Some (op_in path.now result) }
+        ensures named { (v : Version) → Stands v path.now self.now → IsNamed v path.now result }
         ensures seeks { OnlySeeks result }
     {
         match self {
@@ -122,20 +130,28 @@ impl Walk {
 
     /// Goes on in its place with what it hears.
     #[inline(always)]
-    pub fn step(&mut self, goal: Goal, heard: &Heard, path: &[u8], list: &mut Numbers) -> Walked
+    pub fn step(
+        &mut self,
+        version: Version,
+        goal: Goal,
+        heard: &Heard,
+        path: &[u8],
+        list: &mut Numbers,
+    ) -> Walked
         requires nonzero { All (λ b. b ≢ 0) path.now }
-        requires room { length list.old + most_left path.now self.old ≤ MOST_LISTED }
-        requires stands { Stands path.now self.old }
+        requires room { length list.old + most_left version path.now self.old ≤ MOST_LISTED }
+        requires stands { Stands version path.now self.old }
         ensures goes { (text : List ℕ) (s : Action) (after : After)
-            → hears text (walk_of s path.now after goal list.old self.old) heard.now
-            ≡ walked_to s path.now after goal list.new self.new result }
-        ensures most { length list.new + most_walked path.now self.new result ≤ length list.old + most_left path.now self.old }
-        ensures stands { StandsAt path.now self.new result }
+            → hears text (walk_of version s path.now after goal list.old self.old) heard.now
+            ≡ walked_to version s path.now after goal list.new self.new result }
+        ensures most { length list.new + most_walked version path.now self.new result
+            ≤ length list.old + most_left version path.now self.old }
+        ensures stands { StandsAt version path.now self.new result }
     {
         match self {
             Walk::Start => {
                 return match heard.start() {
-                    Some(directory) => onward(self, goal, directory, path, 0),
+                    Some(directory) => onward(version, self, goal, directory, path, 0),
                     None => Walked::Lost(Lost::NoMemory),
                 };
             }
@@ -163,7 +179,7 @@ impl Walk {
                     list.push(*directory);
                 }
                 return match *next {
-                    Next::Go(directory, rest) => onward(self, goal, directory, path, rest),
+                    Next::Go(directory, rest) => onward(version, self, goal, directory, path, rest),
                     Next::Quits(why) => Walked::Lost(why),
                 };
             }
@@ -174,8 +190,8 @@ impl Walk {
 
     /// The move of the walk that is made here, if one is.
     pub fn mark(&self, heard: &Heard) -> Option<Mark>
-        ensures { (s : Action) (path : List ℕ) (after : After) (goal : Goal) (list : List ℕ)
-            → mark_at (walk_of s path after goal list self.now) heard.now ≡ marked_as s result }
+        ensures { (v : Version) (s : Action) (path : List ℕ) (after : After) (goal : Goal) (list : List ℕ)
+            → mark_at (walk_of v s path after goal list self.now) heard.now ≡ marked_as s result }
     {
         match self {
             Walk::Start => match heard.start() {

@@ -1,6 +1,6 @@
 -- Each operation's program is marked at its first step or at its last one.
 use Rattle.inode_data.specs.Widths.{most_blocks}
-use Rattle.run_laws.proofs.Vocabulary.{◌≡◌, ◌⊎◌, inl, inr, ◌<◌, ◌+◌, ◌-◌, ◌*◌, ◌/◌, ◌≤◌, ◌==◌, min, nat_lt, if◌then◌else◌, ℕ, zero, suc, Bool, true, false, is_some, Option, Some, None, List, [], ◌∷◌, length, take, slice_index, refl, subst, arith, option_map, nat_tests, Dinode, IndexState, Loaded, no_index, Used, Super, dirent_at, spell_dirent, numbers_in, Cause, Name, same_name, Handover, Ret, Do, bind, unmarked, AfterLeave, first_below, first_clear_below, clear_bit, free_block, take_first, zero_found, FirstIs, first_is, LockedState, Locks, after_leave, commit_unless, commits, fetch, read_unless, inode_blocks, give_back, inode_block, load_unless, put_inode, store, Address, Direct, InTable, address, table_of, free_in_table, free_indirect, free_numbers, free_table, FilledMemory, blocks_between, end_of, fetch_at, fetch_block, fetch_named, fetch_number, filled_with, give_fetched, next_block, part_of, read_blocks, read_from, read_part, direct, WriteResult, front_of, locate, locate_at, locate_in_table, located, look_up, name_direct, name_in_table, put_part, store_written, take_one, with_address, with_table, write_blocks, write_in, write_part, Query, AtNothing, AtName, AtEntries, InodeType, ClaimResult, EntryResult, Wrote, Take, UnlockInode, UpStart, Up, WalkDown, Down, Free, Forget, Claim, Store, Fill, Enter, Clear, Empty, Slot, Install, StatFile, LockFile, ReadFile, CheckFile, JoinFile, LockOpen, WriteFile, Double, Shut, SetDirectory, Lend, LendDirectory, Release, Join, Leave, Say, give_content, dots, enter_in, entered_to, filled_to, if_none, look_last, put_grown, search_full, seek_full, Acts, acts, Apart, Carry, Emptied, Finds, Had, Has, NothingMore, Opened, HasInodes, claim_at, claim_from, clear_in, clear_slot, slot_found, slot_of, looked, number_found, learned, search_entries, seen_record, stat_loaded, stat_locked, file_locked, give_read, handlers, put_record, loaded_in, record_in, with_index, give_written, refused_in, write_unless, Found, Searched, slot_for, Aim, Named, Unused, block_count, found_at, found_in, is_directory, is_live_directory, look_at, lookup, most_slots, or_next, search, search_from, slot_count, slots_in, first_gap, first_of, free_below, index_room, index_raised, slots_known, with_entry, is_free, IsAtEnd, MarksLast, MarksNone, MarksOne, OperationsActFirstOrLast, block_len, dirent_len, dirents_per_block}
+use Rattle.run_laws.proofs.Vocabulary.{◌≡◌, ◌⊎◌, inl, inr, ◌<◌, ◌+◌, ◌-◌, ◌*◌, ◌/◌, ◌≤◌, ◌==◌, min, nat_lt, if◌then◌else◌, ℕ, zero, suc, Bool, true, false, is_some, Option, Some, None, List, [], ◌∷◌, length, take, slice_index, refl, subst, arith, option_map, nat_tests, Dinode, IndexState, Loaded, no_index, Used, Super, dirent_at, spell_dirent, numbers_in, Cause, Name, same_name, Handover, Ret, Do, bind, unmarked, AfterLeave, first_below, first_clear_below, clear_bit, free_block, take_first, zero_found, FirstIs, first_is, LockedState, Locks, after_leave, commit_unless, commits, fetch, read_unless, inode_blocks, give_back, inode_block, load_unless, put_inode, store, Address, Direct, InTable, address, table_of, free_in_table, free_indirect, free_numbers, free_table, FilledMemory, blocks_between, end_of, fetch_at, fetch_block, fetch_named, fetch_number, filled_with, give_fetched, next_block, part_of, read_blocks, read_from, read_part, direct, WriteResult, front_of, locate, locate_at, locate_in_table, located, look_up, name_direct, name_in_table, put_part, store_written, take_one, with_address, with_table, write_blocks, write_in, write_part, Query, AtNothing, AtName, AtEntries, InodeType, ClaimResult, EntryResult, Wrote, Take, UnlockInode, UpStart, Up, WalkDown, Down, Free, Forget, Claim, Store, Fill, Enter, Clear, Empty, Slot, Install, StatFile, LockFile, ReadFile, CheckFile, JoinFile, LockOpen, WriteFile, Double, Shut, SetDirectory, Lend, LendDirectory, Release, Join, Leave, Say, give_content, dots, enter_in, entered_to, filled_to, if_none, look_last, put_grown, search_full, seek_full, Acts, acts, Apart, Carry, Emptied, Finds, Had, Has, NothingMore, Opened, HasInodes, claim_at, claim_from, clear_in, clear_slot, slot_found, slot_of, looked, number_found, learned, search_entries, seen_record, stat_loaded, stat_locked, file_locked, give_read, handlers, put_record, loaded_in, record_in, with_index, give_written, refused_in, write_unless, Found, Searched, slot_for, Aim, Named, Unused, block_count, found_at, found_in, is_directory, is_live_directory, look_at, lookup, most_slots, or_next, search, search_from, slot_count, slots_in, first_gap, first_of, free_below, index_room, index_raised, slots_known, with_entry, is_free, IsAtEnd, MarksLast, MarksNone, MarksOne, OperationsActFirstOrLast, block_len, dirent_len_of, new_directory_size_of, dirents_per_block_of, Version}
 use Rattle.group_log.specs.declared.log.AfterLeave.TheVariants as left
 use Rattle.fs_machine.specs.Inodes.{Refuses}
 use Rattle.fs_machine.specs.Steps as steps
@@ -135,29 +135,35 @@ next_none : (o : Option Found) (x : IndexState) (next : IndexState → P Searche
 next_none (Some f) x next none = tt
 next_none None x next none = none x
 
-blocks_none : (n : ℕ) (aim : Aim) (d : Dinode) (k : ℕ) (x : IndexState) → MarksNone (search_from {M = Acts} n aim d k x)
+blocks_none : (version : Version) (n : ℕ) (aim : Aim) (d : Dinode) (k : ℕ) (x : IndexState) → MarksNone (search_from {M = Acts} version n aim d k x)
 unfolding search_from
-blocks_none zero aim d k x = tt
-blocks_none (suc n) aim d k x =
-    none_bind (fetch_block d k) (look_at aim d k x (search_from n aim d (k + 1))) (block_none d k)
-    (λ f a. (refl, next_none (found_in aim d k f.bytes) (index_raised d k f.bytes x) (search_from n aim d (k + 1)) (blocks_none n aim d (k + 1))))
+blocks_none version zero aim d k x = tt
+blocks_none version (suc n) aim d k x =
+    none_bind (fetch_block d k) (look_at version aim d k x (search_from version n aim d (k + 1))) (block_none d k)
+    (λ f a. (
+      refl,
+      next_none (found_in version aim d k f.bytes) (index_raised version d k f.bytes x) (search_from version n aim d (k + 1))
+          (blocks_none version n aim d (k + 1)),
+    ))
 
-search_none : (aim : Aim) (l : Loaded) → MarksNone (search {M = Acts} aim l)
-search_none aim l =
-    next_none (first_of aim l.inode l.index) l.index (search_from (block_count l.inode - l.index.blocks) aim l.inode l.index.blocks)
-    (blocks_none (block_count l.inode - l.index.blocks) aim l.inode l.index.blocks)
+search_none : (version : Version) (aim : Aim) (l : Loaded) → MarksNone (search {M = Acts} version aim l)
+search_none version aim l =
+    next_none (first_of version aim l.inode l.index) l.index (search_from version (block_count version l.inode - l.index.blocks) aim l.inode l.index.blocks)
+    (blocks_none version (block_count version l.inode - l.index.blocks) aim l.inode l.index.blocks)
 
-lookup_none : (name : Name) (l : Loaded) → MarksNone (lookup {M = Acts} name l)
-lookup_none name l = none_if (is_live_directory l.inode) (search (Named name) l) (Ret (record { found = None; index = l.index })) (search_none (Named name) l) tt
+lookup_none : (version : Version) (name : Name) (l : Loaded) → MarksNone (lookup {M = Acts} version name l)
+lookup_none version name l =
+    none_if (is_live_directory l.inode) (search version (Named name) l) (Ret (record { found = None; index = l.index })) (search_none version (Named name) l) tt
 
-entries_none : (l : Loaded) → MarksNone (search_entries l)
-entries_none l = none_if (is_directory l.inode) (search Entry l) (Ret (record { found = None; index = l.index })) (search_none Entry l) tt
+entries_none : (version : Version) (l : Loaded) → MarksNone (search_entries version l)
+entries_none version l = none_if (is_directory l.inode) (search version Entry l) (Ret (record { found = None; index = l.index })) (search_none version Entry l) tt
 
-looked_none : (q : Query) (c : Carry) (n : ℕ) (l : Loaded) → MarksNone (looked q c n l)
-looked_none AtNothing c n l = tt
-looked_none (AtName e) c n l =
-    none_bind (lookup e l) (λ o. seen_record c n (record l { index = o.index }) (learned e o.found) (number_found o.found) true) (lookup_none e l) (λ o. tt)
-looked_none AtEntries c n l = none_bind (search_entries l) _ (entries_none l) (λ o. tt)
+looked_none : (version : Version) (q : Query) (c : Carry) (n : ℕ) (l : Loaded) → MarksNone (looked version q c n l)
+looked_none version AtNothing c n l = tt
+looked_none version (AtName e) c n l =
+    none_bind (lookup version e l) (λ o. seen_record c n (record l { index = o.index }) (learned e o.found) (number_found o.found) true) (lookup_none version e l)
+    (λ o. tt)
+looked_none version AtEntries c n l = none_bind (search_entries version l) _ (entries_none version l) (λ o. tt)
 
 stat_none : (sizes : Super) (c : Carry) (l : LockedState) → MarksNone (stat_locked sizes c l)
 stat_none sizes c (Refuses why) = tt
@@ -167,12 +173,12 @@ file_none : (sizes : Super) (fd : ℕ) (c : Carry) (l : LockedState) → MarksNo
 file_none sizes fd c (Refuses why) = tt
 file_none sizes fd c (Locks f content) = none_bind (load_unless sizes.inodestart f.number content) _ (load_none sizes.inodestart f.number content) (λ d. tt)
 
-slot_none : (c : Had) (e : Name) → MarksNone (slot_of c e)
-slot_none Apart e = tt
-slot_none (Has l NothingMore) e = none_bind (search (Named e) l) slot_found (search_none (Named e) l) (λ o. tt)
-slot_none (Has l (Finds name s)) e = none_if (same_name name e) (Ret (s, l.index)) (bind (search (Named e) l) slot_found) tt (none_bind (search (Named e) l) slot_found (search_none (Named e) l) (λ o. tt))
-slot_none (Has l (Opened fd offset)) e = none_bind (search (Named e) l) slot_found (search_none (Named e) l) (λ o. tt)
-slot_none Emptied e = tt
+slot_none : (version : Version) (c : Had) (e : Name) → MarksNone (slot_of version c e)
+slot_none version Apart e = tt
+slot_none version (Has l NothingMore) e = none_bind (search version (Named e) l) slot_found (search_none version (Named e) l) (λ o. tt)
+slot_none version (Has l (Finds name s)) e = none_if (same_name name e) (Ret (s, l.index)) (bind (search version (Named e) l) slot_found) tt (none_bind (search version (Named e) l) slot_found (search_none version (Named e) l) (λ o. tt))
+slot_none version (Has l (Opened fd offset)) e = none_bind (search version (Named e) l) slot_found (search_none version (Named e) l) (λ o. tt)
+slot_none version Emptied e = tt
 
 unless_none : (more : P (Unit {0})) → MarksNone more → (b : Bool) → MarksNone (commit_unless more b)
 unless_none more none true = tt
@@ -213,128 +219,140 @@ record_last op m answer b n d had c = last_bind (fetch b) (put_record op m answe
 
 -- ---- a free slot
 
+-- of a block's places, those that a directory has are below the most
+in_directory : (places most count before p : ℕ) → p < min places (min most count - before) → before + p < most
+in_directory places most count before p low = omega (arith, low)
+
 -- a slot that is found is one that a directory may have
-found_below : (d : Dinode) (k : ℕ) (block : List ℕ) (f : Found) → found_in Unused d k block ≡ Some f → f.slot < most_slots
+found_below : (version : Version) (d : Dinode) (k : ℕ) (block : List ℕ) (f : Found) → found_in version Unused d k block ≡ Some f → f.slot < most_slots version
 unfolding found_in first_free
-found_below d k block f is = at (first_below (λ p. is_free (dirent_at p block)) (slots_in d k)) (first_is (λ p. is_free (dirent_at p block)) (slots_in d k)) is
+found_below version d k block f is =
+    at (first_below (λ p. is_free (dirent_at version p block)) (slots_in version d k)) (first_is (λ p. is_free (dirent_at version p block)) (slots_in version d k)) is
   where
-    at : (o : Option ℕ) → FirstIs (λ p. is_free (dirent_at p block)) (slots_in d k) o → option_map (found_at k block) o ≡ Some f → f.slot < most_slots
+    at : (o : Option ℕ) → FirstIs (λ p. is_free (dirent_at version p block)) (slots_in version d k) o → option_map (found_at version k block) o ≡ Some f
+        → f.slot < most_slots version
     at None first e = absurd (let z : ◌≡◌ {A = Option Found} None (Some f) = e in cc)
     at (Some p) first e =
-        let below : dirents_per_block * k + p < most_slots = omega (arith, first.0) in
-        subst (λ (z : Found). z.slot < most_slots) (let z : found_at k block p ≡ f = cc in z) below
+        let below = in_directory (dirents_per_block_of version) (most_slots version) (d.size / dirent_len_of version) (dirents_per_block_of version * k) p first.0 in
+        subst (λ (z : Found). z.slot < most_slots version) (let z : found_at version k block p ≡ f = cc in z) below
+
+few_of : (known most count : ℕ) → min known (min most count) ≤ most
+few_of known most count = omega arith
 
 -- so is one that the index has
-known_below : (d : Dinode) (x : IndexState) (f : Found) → first_of Unused d x ≡ Some f → f.slot < most_slots
+known_below : (version : Version) (d : Dinode) (x : IndexState) (f : Found) → first_of version Unused d x ≡ Some f → f.slot < most_slots version
 unfolding first_of
-known_below d x f is = at (min (slots_known x) (slot_count d)) (first_gap 0 (take index_room x.slots)) (let z : min (slots_known x) (slot_count d) ≤ most_slots = omega arith in z) is
+known_below version d x f is = at (min (slots_known version x) (slot_count version d)) (first_gap 0 (take index_room x.slots)) (few_of (slots_known version x) (most_slots version) (d.size / dirent_len_of version)) is
   where
-    at : (limit s : ℕ) → limit ≤ most_slots → free_below limit s ≡ Some f → f.slot < most_slots
+    at : (limit s : ℕ) → limit ≤ most_slots version → free_below limit s ≡ Some f → f.slot < most_slots version
     at limit s few e = by (nat_lt s limit) refl e
       where
-        by : (b : Bool) → nat_lt s limit ≡ b → (if b then Some (record { slot = s; number = 0 }) else None) ≡ Some f → f.slot < most_slots
+        by : (b : Bool) → nat_lt s limit ≡ b → (if b then Some (record { slot = s; number = 0 }) else None) ≡ Some f → f.slot < most_slots version
         by false q z = absurd (let z : ◌≡◌ {A = Option Found} None (Some f) = z in cc)
         by true q z =
-            let below : s < most_slots = grind (arith, nat_tests, q, few) in
-            subst (λ (z : Found). z.slot < most_slots) (let z : record { slot = s; number = 0 } ≡ f = cc in z) below
+            let below : s < most_slots version = grind (arith, nat_tests, q, few) in
+            subst (λ (z : Found). z.slot < most_slots version) (let z : record { slot = s; number = 0 } ≡ f = cc in z) below
 
 -- the slot of a new name, if that is below the most
-abbrev FitsIn : Dinode → Searched → Type 0
-FitsIn d o = slot_for d o.found < most_slots
+abbrev FitsIn : Version → Dinode → Searched → Type 0
+FitsIn version d o = slot_for version d o.found < most_slots version
 
-next_fits : (d : Dinode) (o : Option Found) (x : IndexState) (next : IndexState → P Searched) → ((f : Found) → o ≡ Some f → f.slot < most_slots) → ((y : IndexState) → EndsAs (FitsIn d) (next y)) → EndsAs (FitsIn d) (or_next o x next)
-next_fits d (Some f) x next below ends = below f refl
-next_fits d None x next below ends = ends x
+next_fits : (version : Version) (d : Dinode) (o : Option Found) (x : IndexState) (next : IndexState → P Searched) → ((f : Found) → o ≡ Some f → f.slot < most_slots version) → ((y : IndexState) → EndsAs (FitsIn version d) (next y)) → EndsAs (FitsIn version d) (or_next o x next)
+next_fits version d (Some f) x next below ends = below f refl
+next_fits version d None x next below ends = ends x
 
-blocks_fit : (n : ℕ) (d : Dinode) (k : ℕ) (x : IndexState) → slot_count d < most_slots → EndsAs (FitsIn d) (search_from n Unused d k x)
+blocks_fit : (version : Version) (n : ℕ) (d : Dinode) (k : ℕ) (x : IndexState) → slot_count version d < most_slots version
+    → EndsAs (FitsIn version d) (search_from version n Unused d k x)
 unfolding search_from
-blocks_fit zero d k x few = few
-blocks_fit (suc n) d k x few =
-    ends_bind (FitsIn d) (fetch_block d k) (look_at Unused d k x (search_from n Unused d (k + 1)))
-    (λ f a. next_fits d (found_in Unused d k f.bytes) (index_raised d k f.bytes x) (search_from n Unused d (k + 1)) (λ z is. found_below d k f.bytes z is) (λ y. blocks_fit n d (k + 1) y few))
+blocks_fit version zero d k x few = few
+blocks_fit version (suc n) d k x few =
+    ends_bind (FitsIn version d) (fetch_block d k) (look_at version Unused d k x (search_from version n Unused d (k + 1)))
+    (λ f a. next_fits version d (found_in version Unused d k f.bytes) (index_raised version d k f.bytes x) (search_from version n Unused d (k + 1)) (λ z is. found_below version d k f.bytes z is) (λ y. blocks_fit version n d (k + 1) y few))
 
-search_fits : (l : Loaded) → slot_count l.inode < most_slots → EndsAs (FitsIn l.inode) (search Unused l)
-search_fits l few =
-    next_fits l.inode (first_of Unused l.inode l.index) l.index (search_from (block_count l.inode - l.index.blocks) Unused l.inode l.index.blocks) (λ f is. known_below l.inode l.index f is)
-    (λ y. blocks_fit (block_count l.inode - l.index.blocks) l.inode l.index.blocks y few)
+search_fits : (version : Version) (l : Loaded) → slot_count version l.inode < most_slots version → EndsAs (FitsIn version l.inode) (search version Unused l)
+search_fits version l few =
+    next_fits version l.inode (first_of version Unused l.inode l.index) l.index (search_from version (block_count version l.inode - l.index.blocks) Unused l.inode l.index.blocks) (λ f is. known_below version l.inode l.index f is)
+    (λ y. blocks_fit version (block_count version l.inode - l.index.blocks) l.inode l.index.blocks y few)
 
-module _ {A : Type 0} (act : Acts) (then_ : Searched → P A) (full : (x : IndexState) → IsAtEnd (then_ (record { found = None; index = x }))) (fits : (f : Found) (x : IndexState) → f.slot < most_slots → MarksLast (then_ (record { found = Some f; index = x }))) where
-  last_seen : (o : Option Found) (x : IndexState) → ((f : Found) → o ≡ Some f → f.slot < most_slots) → (a : Unit {0}) → ((is_some (if_none o (Some act)) ≡ true) × IsAtEnd (then_ (record { found = o; index = x }))) ⊎ ((if_none o (Some act) ≡ None) × MarksLast (then_ (record { found = o; index = x })))
+module _ (version : Version) {A : Type 0} (act : Acts) (then_ : Searched → P A) (full : (x : IndexState) → IsAtEnd (then_ (record { found = None; index = x }))) (fits : (f : Found) (x : IndexState) → f.slot < most_slots version → MarksLast (then_ (record { found = Some f; index = x }))) where
+  last_seen : (o : Option Found) (x : IndexState) → ((f : Found) → o ≡ Some f → f.slot < most_slots version) → (a : Unit {0}) → ((is_some (if_none o (Some act)) ≡ true) × IsAtEnd (then_ (record { found = o; index = x }))) ⊎ ((if_none o (Some act) ≡ None) × MarksLast (then_ (record { found = o; index = x })))
   last_seen None x below a = inl (refl, full x)
   last_seen (Some f) x below a = inr (refl, fits f x (below f refl))
 
-  next_full : (o : Option Found) (x : IndexState) (next : IndexState → P Searched) → ((f : Found) → o ≡ Some f → f.slot < most_slots) → ((y : IndexState) → MarksLast (bind (next y) then_)) → MarksLast (bind (or_next o x next) then_)
+  next_full : (o : Option Found) (x : IndexState) (next : IndexState → P Searched) → ((f : Found) → o ≡ Some f → f.slot < most_slots version) → ((y : IndexState) → MarksLast (bind (next y) then_)) → MarksLast (bind (or_next o x next) then_)
   next_full (Some f) x next below last = fits f x (below f refl)
   next_full None x next below last = last x
 
-  blocks_full : (d : Dinode) (n k : ℕ) (x : IndexState) → MarksLast (bind (search_full (Some act) n d k x) then_)
+  blocks_full : (d : Dinode) (n k : ℕ) (x : IndexState) → MarksLast (bind (search_full version (Some act) n d k x) then_)
   unfolding search_full
   blocks_full d zero k x =
-      last_bind_two (fetch_block d k) (look_last (Some act) d k x) then_ (block_none d k) (λ f. last_seen (found_in Unused d k f.bytes) (index_raised d k f.bytes x) (λ z is. found_below d k f.bytes z is))
+      last_bind_two (fetch_block d k) (look_last version (Some act) d k x) then_ (block_none d k) (λ f. last_seen (found_in version Unused d k f.bytes) (index_raised version d k f.bytes x) (λ z is. found_below version d k f.bytes z is))
   blocks_full d (suc n) k x =
-      last_bind_two (fetch_block d k) (look_at Unused d k x (search_full (Some act) n d (k + 1))) then_ (block_none d k)
-      (λ f a. inr (refl, next_full (found_in Unused d k f.bytes) (index_raised d k f.bytes x) (search_full (Some act) n d (k + 1)) (λ z is. found_below d k f.bytes z is) (blocks_full d n (k + 1))))
+      last_bind_two (fetch_block d k) (look_at version Unused d k x (search_full version (Some act) n d (k + 1))) then_ (block_none d k)
+      (λ f a. inr (refl, next_full (found_in version Unused d k f.bytes) (index_raised version d k f.bytes x) (search_full version (Some act) n d (k + 1)) (λ z is. found_below version d k f.bytes z is) (blocks_full d n (k + 1))))
 
-  full_last : (l : Loaded) → MarksLast (bind (seek_full (Some act) l) then_)
+  full_last : (l : Loaded) → MarksLast (bind (seek_full version (Some act) l) then_)
   full_last l =
-      next_full (first_of Unused l.inode l.index) l.index (search_full (Some act) (most_blocks - 1 - l.index.blocks) l.inode l.index.blocks) (λ f is. known_below l.inode l.index f is)
+      next_full (first_of version Unused l.inode l.index) l.index (search_full version (Some act) (most_blocks - 1 - l.index.blocks) l.inode l.index.blocks) (λ f is. known_below version l.inode l.index f is)
       (blocks_full l.inode (most_blocks - 1 - l.index.blocks) l.index.blocks)
 
 -- ---- the operations
 
 module _ (sizes : Super) (c : Carry) where
   module _ (d : ℕ) (e : Name) (n : ℕ) (m : EntryResult → Option above.Mark) where
-    entry_last : (x : IndexState) (slot : ℕ) → slot < most_slots → MarksLast (enter_in sizes d e n c m x slot)
-    entry_last x slot below = at (nat_lt slot most_slots) (grind (arith, nat_tests, below))
+    entry_last : (x : IndexState) (slot : ℕ) → slot < most_slots sizes.version → MarksLast (enter_in sizes d e n c m x slot)
+    entry_last x slot below = at (nat_lt slot (most_slots sizes.version)) (grind (arith, nat_tests, below))
       where
         writes : P (Handover EntryResult Carry)
         writes =
-            bind (write_blocks (blocks_between (dirent_len * slot) (dirent_len * slot + length (spell_dirent (Used n e)))) sizes (dirent_len * slot) (spell_dirent (Used n e)) (record_in c d)) (entered_to sizes d e n c m x slot)
+            bind (write_blocks (blocks_between (dirent_len_of sizes.version * slot) (dirent_len_of sizes.version * slot + length (spell_dirent sizes.version (Used n e)))) sizes (dirent_len_of sizes.version * slot) (spell_dirent sizes.version (Used n e)) (record_in c d)) (entered_to sizes d e n c m x slot)
 
         last : MarksLast writes
         last =
-            last_bind (write_blocks (blocks_between (dirent_len * slot) (dirent_len * slot + length (spell_dirent (Used n e)))) sizes (dirent_len * slot) (spell_dirent (Used n e)) (record_in c d)) (entered_to sizes d e n c m x slot)
-            (writes_none (blocks_between (dirent_len * slot) (dirent_len * slot + length (spell_dirent (Used n e)))) sizes (dirent_len * slot) (spell_dirent (Used n e)) (record_in c d))
-            (λ w. last_if (w.upto == dirent_len * (slot + 1)) (put_grown (Enter d e n) above.Room m above.InPlace sizes d c (with_entry slot (spell_dirent (Used n e)) x) w)
+            last_bind (write_blocks (blocks_between (dirent_len_of sizes.version * slot) (dirent_len_of sizes.version * slot + length (spell_dirent sizes.version (Used n e)))) sizes (dirent_len_of sizes.version * slot) (spell_dirent sizes.version (Used n e)) (record_in c d)) (entered_to sizes d e n c m x slot)
+            (writes_none (blocks_between (dirent_len_of sizes.version * slot) (dirent_len_of sizes.version * slot + length (spell_dirent sizes.version (Used n e)))) sizes (dirent_len_of sizes.version * slot) (spell_dirent sizes.version (Used n e)) (record_in c d))
+            (λ w. last_if (w.upto == dirent_len_of sizes.version * (slot + 1)) (put_grown (Enter d e n) above.Room m above.InPlace sizes d c (with_entry sizes.version slot (spell_dirent sizes.version (Used n e)) x) w)
             (put_grown (Enter d e n) (above.RoomFor 0) m above.NoBlock sizes d c x w)
-            (grown_last (Enter d e n) above.Room m above.InPlace sizes d c (with_entry slot (spell_dirent (Used n e)) x) w) (grown_last (Enter d e n) (above.RoomFor 0) m above.NoBlock sizes d c x w))
+            (grown_last (Enter d e n) above.Room m above.InPlace sizes d c (with_entry sizes.version slot (spell_dirent sizes.version (Used n e)) x) w) (grown_last (Enter d e n) (above.RoomFor 0) m above.NoBlock sizes d c x w))
 
         at : (b : Bool) → b ≡ true → MarksLast (if b then writes else Ret (record { answer = above.NoSlot; carry = with_index c d x }))
         at true is = last
         at false is = absurd (let z : false ≡ true = is in cc)
 
-    entry_ends : (x : IndexState) (slot : ℕ) → nat_lt slot most_slots ≡ false → IsAtEnd (enter_in sizes d e n c m x slot)
-    entry_ends x slot past = at (nat_lt slot most_slots) past _
+    entry_ends : (x : IndexState) (slot : ℕ) → nat_lt slot (most_slots sizes.version) ≡ false → IsAtEnd (enter_in sizes d e n c m x slot)
+    entry_ends x slot past = at (nat_lt slot (most_slots sizes.version)) past _
       where
         at : (b : Bool) → b ≡ false → (p : P (Handover EntryResult Carry)) → IsAtEnd (if b then p else Ret (record { answer = above.NoSlot; carry = with_index c d x }))
         at true is p = absurd (let z : true ≡ false = is in cc)
         at false is p = tt
 
     enters_last : MarksLast (handlers sizes c (Enter d e n) m)
-    enters_last = at (nat_lt (slot_count (record_in c d)) most_slots) refl
+    enters_last = at (nat_lt (slot_count sizes.version (record_in c d)) (most_slots sizes.version)) refl
       where
         then_ : Searched → P (Handover EntryResult Carry)
-        then_ o = enter_in sizes d e n c m o.index (slot_for (record_in c d) o.found)
+        then_ o = enter_in sizes d e n c m o.index (slot_for sizes.version (record_in c d) o.found)
 
-        at : (b : Bool) → nat_lt (slot_count (record_in c d)) most_slots ≡ b
-            → MarksLast (bind (if b then search Unused (loaded_in c d) else seek_full (acts (Enter d e n) above.Room m) (loaded_in c d)) then_)
+        at : (b : Bool) → nat_lt (slot_count sizes.version (record_in c d)) (most_slots sizes.version) ≡ b
+            → MarksLast (bind (if b then search sizes.version Unused (loaded_in c d) else seek_full sizes.version (acts (Enter d e n) above.Room m)
+            (loaded_in c d)) then_)
         at true few =
-            last_bind_as (FitsIn (record_in c d)) (search Unused (loaded_in c d)) then_ (search_none Unused (loaded_in c d))
-            (search_fits (loaded_in c d) (grind (arith, nat_tests, few))) (λ o fits. entry_last o.index (slot_for (record_in c d) o.found) fits)
+            last_bind_as (FitsIn sizes.version (record_in c d)) (search sizes.version Unused (loaded_in c d)) then_ (search_none sizes.version Unused (loaded_in c d))
+            (search_fits sizes.version (loaded_in c d) (grind (arith, nat_tests, few)))
+            (λ o fits. entry_last o.index (slot_for sizes.version (record_in c d) o.found) fits)
         at false full =
-            full_last (record { op = Enter d e n; outside = above.Room; mark = m }) then_ (λ x. entry_ends x (slot_count (record_in c d)) full) (λ f x below. entry_last x f.slot below) (loaded_in c d)
+            full_last sizes.version (record { op = Enter d e n; outside = above.Room; mark = m }) then_ (λ x. entry_ends x (slot_count sizes.version (record_in c d)) full) (λ f x below. entry_last x f.slot below) (loaded_in c d)
 
   fills_last : (n d : ℕ) (m : Bool → Option above.Mark) → MarksLast (handlers sizes c (Fill n d) m)
   fills_last n d m =
-      last_bind (write_blocks (blocks_between 0 (0 + length (dots n d))) sizes 0 (dots n d) (record_in c n)) (filled_to sizes n d c m) (writes_none (blocks_between 0 (0 + length (dots n d))) sizes 0 (dots n d) (record_in c n))
-      (λ w. last_if (w.upto == 2 * dirent_len) (put_grown (Fill n d) above.Room m true sizes n c no_index w) (put_grown (Fill n d) (above.RoomFor 0) m false sizes n c no_index w)
+      last_bind (write_blocks (blocks_between 0 (0 + length (dots sizes.version n d))) sizes 0 (dots sizes.version n d) (record_in c n)) (filled_to sizes n d c m) (writes_none (blocks_between 0 (0 + length (dots sizes.version n d))) sizes 0 (dots sizes.version n d) (record_in c n))
+      (λ w. last_if (w.upto == new_directory_size_of sizes.version) (put_grown (Fill n d) above.Room m true sizes n c no_index w) (put_grown (Fill n d) (above.RoomFor 0) m false sizes n c no_index w)
       (grown_last (Fill n d) above.Room m true sizes n c no_index w) (grown_last (Fill n d) (above.RoomFor 0) m false sizes n c no_index w))
 
   clears_last : (n : ℕ) (e : Name) (m : above.Answer (Clear n e) → Option above.Mark) → MarksLast (handlers sizes c (Clear n e) m)
   clears_last n e m =
-      last_bind (slot_of (c n) e) (clear_slot sizes n e c m) (slot_none (c n) e)
-      (λ s. last_bind (fetch_block (record_in c n) (s.0 / dirents_per_block)) (clear_in sizes n e c m s)
-      (block_none (record_in c n) (s.0 / dirents_per_block))
+      last_bind (slot_of sizes.version (c n) e) (clear_slot sizes n e c m) (slot_none sizes.version (c n) e)
+      (λ s. last_bind (fetch_block (record_in c n) (s.0 / dirents_per_block_of sizes.version)) (clear_in sizes n e c m s)
+      (block_none (record_in c n) (s.0 / dirents_per_block_of sizes.version))
       (λ f a. inr (refl, last_bind (fetch (inode_block sizes.inodestart n)) _ (fetch_none (inode_block sizes.inodestart n)) (λ block b. inl (refl, tt)))))
 
   writes_last : (fd n offset : ℕ) (bytes : List ℕ) (m : Wrote → Option above.Mark) (o : Option Cause) → MarksLast (write_unless sizes fd n offset bytes m c o)
@@ -386,7 +404,7 @@ module _ (sizes : Super) (c : Carry) where
 -- ---- all of them
 
 pub first_or_last : OperationsActFirstOrLast
-first_or_last sizes inodes c (Take n looking) m = λ content. (refl, none_bind (load_unless sizes.inodestart n content) (looked looking c n) (load_none sizes.inodestart n content) (looked_none looking c n))
+first_or_last sizes inodes c (Take n looking) m = λ content. (refl, none_bind (load_unless sizes.inodestart n content) (looked sizes.version looking c n) (load_none sizes.inodestart n content) (looked_none sizes.version looking c n))
 first_or_last sizes inodes c (UnlockInode n) m = λ a. inl (refl, tt)
 first_or_last sizes inodes c (UpStart absolute) m = λ a. inl (refl, tt)
 first_or_last sizes inodes c (Up n) m = λ a. inl (refl, tt)

@@ -40,13 +40,13 @@ module _ (sizes : Super) where
   reached : (t u : above.World) (es before after : List (PlacedStep (lowered_inode_calls sizes)))
       (e : PlacedStep (lowered_inode_calls sizes))
       → es ≡ before ++ e ∷ after → Chain (lowered_inode_calls sizes) t es u
-      → (w : above.World) × Chain (lowered_inode_calls sizes) t before w × (v : above.World) × IsStep w e.hart e.step v
+      → (w : above.World) × Chain (lowered_inode_calls sizes) t before w × (v : above.World) × IsStep sizes.version w e.hart e.step v
   reached t u es before after e is c =
       at t before (subst (λ (z : List (PlacedStep (lowered_inode_calls sizes))). Chain (lowered_inode_calls sizes) t z u) is c)
     where
       at : (t : above.World) (before : List (PlacedStep (lowered_inode_calls sizes)))
           → Chain (lowered_inode_calls sizes) t (before ++ e ∷ after) u
-          → (w : above.World) × Chain (lowered_inode_calls sizes) t before w × (v : above.World) × IsStep w e.hart e.step v
+          → (w : above.World) × Chain (lowered_inode_calls sizes) t before w × (v : above.World) × IsStep sizes.version w e.hart e.step v
       at t [] c = (t, refl, c.0, c.1)
       at t (x ∷ xs) c = let r = at c.0 xs c.2 in (r.0, (c.0, c.1, r.1), r.2, r.3)
 
@@ -72,7 +72,7 @@ found_none contents failures w device events came new history mounted is =
     each c runs number reply room ends full =
         let sizes : Super = sizes_of disk in
         let s = run (lowered_inode_calls (sizes_of disk)) history (fresh (lowered_inode_calls (sizes_of disk)) (first disk count)) in
-        let g = subst (λ (o : Option (ℕ × Reply)). RunsTo c.call (operations_of sizes s c.start) o) ends runs in
+        let g = subst (λ (o : Option (ℕ × Reply)). RunsTo sizes.version c.call (operations_of sizes s c.start) o) ends runs in
         let x = g.wants room full in
         let t = stands sizes c.start x.0 (operations_made sizes s) x.1 in
         let r = reached sizes (first_world disk) (unreserved s.world.seen) (operations_made sizes s) t.before t.after t.operation
@@ -87,5 +87,5 @@ found_none contents failures w device events came new history mounted is =
           wants = want;
           world = r.0;
           leads = r.1;
-          none = step_wants r.0 r.2 t.operation.hart t.operation.step r.3 room want;
+          none = step_wants sizes.version r.0 r.2 t.operation.hart t.operation.step r.3 room want;
         }

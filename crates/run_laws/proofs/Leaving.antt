@@ -1,6 +1,5 @@
 -- What a program's operations have changed when it ends for want of room: of a run of it, and of each call's program.
-use Rattle.image_versions.specs.declared.version.Version.TheVariants.{One}
-use Rattle.run_laws.proofs.Vocabulary.{◌≡◌, ◌⊎◌, inl, inr, ℕ, Bool, true, false, if◌then◌else◌, List, [], ◌∷◌, ◌++◌, Option, Some, None, refl, sym, ◌∙◌, ap, subst, append_assoc, append-nil, Full, Reply, Call, eq_self, In, Ret, Do, P, program, Answer, Mark, New, Free, Claim, Frees, Change, Freed, Sighting, by_free, changed_by, changes_after, seen_by, Stands, wanted, HasWanted, IsRunOf, Operation}
+use Rattle.run_laws.proofs.Vocabulary.{◌≡◌, ◌⊎◌, inl, inr, ℕ, Bool, true, false, if◌then◌else◌, List, [], ◌∷◌, ◌++◌, Option, Some, None, refl, sym, ◌∙◌, ap, subst, append_assoc, append-nil, Full, Reply, Call, eq_self, In, Ret, Do, P, program, Answer, Mark, New, Free, Claim, Frees, Change, Freed, Sighting, by_free, changed_by, changes_after, seen_by, Stands, wanted, HasWanted, IsRunOf, Operation, Version}
 use Rattle.plain_tree.specs.declared.answer.Answer.TheVariants as answers
 use Rattle.inode_machine.specs.World.{Op}
 use Rattle.call_programs.specs.Asks.{Asks, AsksSo, Because, Before, Excused, Lacks, Nothing, Wants, after, changed_after, excused, fresh, holding, or_still, wants_after, wants_back, with_more}
@@ -62,7 +61,7 @@ still_so : (o : Option Full) (w : Wants) → lacks (or_still o w) ≡ or_wanted 
 still_so None w = refl
 still_so (Some room) w = refl
 
-module _ (call : Call) where
+module _ (version : Version) (call : Call) where
   -- what stays with the reply, if some operation has found no room
   abbrev pub Ends : Bool → List Change → Reply → Type 0
   Ends found_none cs r = found_none ≡ true → (room : Full) → r.answer ≡ answers.Full room → Stands room call cs
@@ -105,23 +104,23 @@ module _ (call : Call) where
   ends_so Excused cs r is t room e = absurd (never_so t)
   ends_so (Lacks kind) cs r is t room e = (let so : Because call (Lacks kind) cs (answers.Full room) = subst (λ z. Because call (Lacks kind) cs z) e is in so.1)
 
-  wants_so : (s : Before) (op : Op) (m : Answer op → Option Mark) (k : Answer op → P Reply) (is : Asks One call s op m k) (a : Answer op)
-      → lacks (wants_after One call s op m k is a) ≡ or_wanted (wanted op a) (lacks s.wants)
+  wants_so : (s : Before) (op : Op) (m : Answer op → Option Mark) (k : Answer op → P Reply) (is : Asks version call s op m k) (a : Answer op)
+      → lacks (wants_after version call s op m k is a) ≡ or_wanted (wanted op a) (lacks s.wants)
   wants_so s (Claim inode_type) m k is (New n) = back_so s.wants (is.1.2 n)
   wants_so s (Claim inode_type) m k is a = still_so (wanted (Claim inode_type) a) s.wants
   wants_so s op m k is a = still_so (wanted op a) s.wants
 
-  changed_so : (s : Before) (op : Op) (m : Answer op → Option Mark) (k : Answer op → P Reply) → Asks One call s op m k → (a : Answer op)
-      → changed_after One call s op m a ≡ with_more s.changed (changed_by s.seen op a (m a))
+  changed_so : (s : Before) (op : Op) (m : Answer op → Option Mark) (k : Answer op → P Reply) → Asks version call s op m k → (a : Answer op)
+      → changed_after version call s op m a ≡ with_more s.changed (changed_by s.seen op a (m a))
   changed_so s (Free n) m k is a = subst (λ (z : Unit {0} → Option Mark). s.changed ≡ with_more s.changed (by_free n (z a))) (sym is.1.1) (none_freed s.changed n)
   changed_so s op m k is a = refl
 
-  leaves : (s : Before) (p : P Reply) → AsksSo One call s p → LeavesFrom s.seen (lacks s.wants) s.changed p
+  leaves : (s : Before) (p : P Reply) → AsksSo version call s p → LeavesFrom s.seen (lacks s.wants) s.changed p
   leaves s (Ret r) so = ends_so s.wants s.changed r so.1
   leaves s (Do op m k) so =
       λ a. subst (λ (z : Bool). LeavesFrom (seen_by op a) z (with_more s.changed (changed_by s.seen op a (m a))) (k a)) (wants_so s op m k so.0 a)
-      (subst (λ (z : List Change). LeavesFrom (seen_by op a) (lacks (wants_after One call s op m k so.0 a)) z (k a)) (changed_so s op m k so.0 a)
-      (leaves (after One call s op m k so.0 a) (k a) (so.1 a)))
+      (subst (λ (z : List Change). LeavesFrom (seen_by op a) (lacks (wants_after version call s op m k so.0 a)) z (k a)) (changed_so s op m k so.0 a)
+      (leaves (after version call s op m k so.0 a) (k a) (so.1 a)))
 
-  pub calls_leave : Leaves false [] (program call)
-  calls_leave = leaves (holding [] fresh []) (program call) (calls_ask One call)
+  pub calls_leave : Leaves false [] (program version call)
+  calls_leave = leaves (holding [] fresh []) (program version call) (calls_ask version call)

@@ -1,5 +1,5 @@
 -- No call that may start has a limit above a million steps.
-use Rattle.run_laws.proofs.Vocabulary.{◌≡◌, ◌≤◌, ◌+◌, ◌-◌, ◌*◌, ◌/◌, ◌==◌, ℕ, Bool, true, false, not, nat_lt, if◌then◌else◌, cond, List, [], ◌∷◌, ◌++◌, length, filter, take, Some, None, refl, arith, inl, inr, div-mul-le_self, nat_tests, length-map, Call, piece_count, elements, is_empty, pieces, name_len, either, is_nothing, limit, path_cost, asked_limit, PathTooLong, ZeroInPath, NotCovered, TooLong, are_bytes, asks_wrong, has_zero, is_covered, path_limit, path_wrong, both_paths, most_steps}
+use Rattle.run_laws.proofs.Vocabulary.{◌≡◌, ◌≤◌, ◌+◌, ◌-◌, ◌*◌, ◌/◌, ◌==◌, ℕ, Bool, true, false, not, nat_lt, if◌then◌else◌, cond, List, [], ◌∷◌, ◌++◌, length, filter, take, Some, None, refl, arith, inl, inr, div-mul-le_self, nat_tests, length-map, Call, piece_count, elements, is_empty, pieces, name_len_of, either, is_nothing, limit, path_cost, asked_limit, PathTooLong, ZeroInPath, NotCovered, TooLong, are_bytes, asks_wrong, has_zero, is_covered, path_limit, path_wrong, both_paths, most_steps, Version}
 use Rattle.plain_tree.specs.declared.call.Call.TheVariants as calls
 
 at_most : (n k : ℕ) → nat_lt k n ≡ false → n ≤ k
@@ -24,10 +24,10 @@ few_pieces f (b ∷ bs) = elim (either (b == 47)) [
 ]
 
 -- no more than bytes, and one
-few_elements : (p : List ℕ) → length (elements p) ≤ length p + 1
-few_elements p =
+few_elements : (version : Version) (p : List ℕ) → length (elements version p) ≤ length p + 1
+few_elements version p =
     let named : List (List ℕ) = filter (λ e. not (is_empty e)) (pieces [] p) in
-    let a : length (elements p) ≡ length named = length-map named (λ e. take name_len e) in
+    let a : length (elements version p) ≡ length named = length-map named (λ e. take (name_len_of version) e) in
     let b = few_left (λ e. not (is_empty e)) (pieces [] p) in
     let c = few_pieces [] p in
     omega (arith, a, b, c)
@@ -39,8 +39,8 @@ short_path p e = by (nat_lt path_limit (length p)) refl e
     by true q e = absurd cc
     by false q e = at_most (length p) 127 q
 
-path_few : (p : List ℕ) → is_nothing (path_wrong p) ≡ true → path_cost p ≤ 335400
-path_few p e = let a = few_elements p in let b = short_path p e in omega (arith, a, b)
+path_few : (version : Version) (p : List ℕ) → is_nothing (path_wrong p) ≡ true → path_cost version p ≤ 335400
+path_few version p e = let a = few_elements version p in let b = short_path p e in omega (arith, a, b)
 
 -- ---- pieces
 
@@ -60,15 +60,15 @@ few_parts bytes few = by (length bytes == 0)
 
 -- ---- calls
 
-pub limits : (call : Call) → is_covered call ≡ true → limit call ≤ most_steps
-limits (calls.Open path flags) e = let a = path_few path e in omega (arith, a)
-limits (calls.Read fd buffer) e = omega arith
-limits (calls.Write fd bytes) e = let a = few_parts bytes (few_asked (length bytes) e) in omega (arith, a)
-limits (calls.Link old new) e = let two = both_paths old new e in let a = path_few old two.0 in let b = path_few new two.1 in omega (arith, a, b)
-limits (calls.Unlink path) e = let a = path_few path e in omega (arith, a)
-limits (calls.Mkdir path) e = let a = path_few path e in omega (arith, a)
-limits (calls.Chdir path) e = let a = path_few path e in omega (arith, a)
-limits (calls.Dup fd) e = omega arith
-limits (calls.Fstat fd) e = omega arith
-limits (calls.Close fd) e = omega arith
-limits (calls.Inherit child) e = omega arith
+pub limits : (version : Version) (call : Call) → is_covered call ≡ true → limit version call ≤ most_steps
+limits version (calls.Open path flags) e = let a = path_few version path e in omega (arith, a)
+limits version (calls.Read fd buffer) e = omega arith
+limits version (calls.Write fd bytes) e = let a = few_parts bytes (few_asked (length bytes) e) in omega (arith, a)
+limits version (calls.Link old new) e = let two = both_paths old new e in let a = path_few version old two.0 in let b = path_few version new two.1 in omega (arith, a, b)
+limits version (calls.Unlink path) e = let a = path_few version path e in omega (arith, a)
+limits version (calls.Mkdir path) e = let a = path_few version path e in omega (arith, a)
+limits version (calls.Chdir path) e = let a = path_few version path e in omega (arith, a)
+limits version (calls.Dup fd) e = omega arith
+limits version (calls.Fstat fd) e = omega arith
+limits version (calls.Close fd) e = omega arith
+limits version (calls.Inherit child) e = omega arith

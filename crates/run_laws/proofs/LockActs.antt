@@ -1,6 +1,6 @@
 -- An operation that acts in the first step of its program does so when that step ran: the tables show that a lock was
 -- taken.
-use Rattle.run_laws.proofs.Vocabulary.{◌≡◌, ℕ, Option, Some, None, List, [], refl, sym, ◌∙◌, ap, subst, put_same, Super, Prog, Ret, Do, ExecResult, Waits, Ran, Stops, exec_result_in, ActOf, Both, both, ran_to, act_places, acts, seen_after, own, own_one, Outside, AnswerBelow, LockedState, file_named, lock_file, lock_inode, lock_open, refusal_of, came_to, in_tables, loaded, Loaded, Carry, handlers, file_locked, stat_locked, machine, Mark, Take, StatFile, LockFile, LockOpen, World, block_calls, IsAtEnd, InFirst, time_of, Operation, whole_inodes, told_by}
+use Rattle.run_laws.proofs.Vocabulary.{◌≡◌, ℕ, Option, Some, None, List, [], refl, sym, ◌∙◌, ap, subst, put_same, Super, Prog, Ret, Do, ExecResult, Waits, Ran, Stops, exec_result_in, ActOf, Both, both, ran_to, act_places, acts, seen_after, own, own_one, Outside, AnswerBelow, LockedState, file_named, lock_file, lock_inode, lock_open, refusal_of, came_to, in_tables, loaded, Loaded, Carry, handlers, file_locked, stat_locked, machine, Mark, Take, StatFile, LockFile, LockOpen, World, block_calls, IsAtEnd, InFirst, time_of, Operation, whole_inodes, told_by, Version}
 use Rattle.fs_machine.specs.Inodes as inodes
 use Rattle.fs_machine.specs.Steps as steps
 use Rattle.fs_machine.specs.Tables.{TablesState, holder_in, place_of}
@@ -60,24 +60,26 @@ abbrev pub W : Type 0
 W = Both World above.World
 
 -- what is seen after a step that ran
-pub seen_is : {A : Type 0} (h : ℕ) (m : A → Option (ActOf machine)) (g : above.World) (d : ExecResult A World) (b : A) (u : W) → both machine h m g d ≡ Ran b u → u.seen ≡ seen_after machine h (m b) g
-seen_is h m g Waits b u e = absurd (never_ran b u e)
-seen_is h m g (Stops r) b u e = absurd (let q : Stops (record { real = r; seen = g }) ≡ Ran b u = e in cc)
-seen_is {A} h m g (Ran a r) b u e = sym (ap (λ (z : ExecResult A W). (ran_to u z).seen) e) ∙ ap (λ (z : A). seen_after machine h (m z) g) (ap (answer_or b) e)
+pub seen_is : (version : Version) {A : Type 0} (h : ℕ) (m : A → Option (ActOf (machine version))) (g : above.World) (d : ExecResult A World) (b : A) (u : W) → both (machine version) h m g d ≡ Ran b u → u.seen ≡ seen_after (machine version) h (m b) g
+seen_is version h m g Waits b u e = absurd (never_ran b u e)
+seen_is version h m g (Stops r) b u e = absurd (let q : Stops (record { real = r; seen = g }) ≡ Ran b u = e in cc)
+seen_is version {A} h m g (Ran a r) b u e =
+    sym (ap (λ (z : ExecResult A W). (ran_to u z).seen) e) ∙ ap (λ (z : A). seen_after (machine version) h (m z) g) (ap (answer_or b) e)
 
 -- a step of the tables
-on_tables : (h : ℕ) (op : steps.Op) (m : AnswerBelow op → Option (ActOf machine)) (w : W) (d : ExecResult (AnswerBelow op) TablesState) (b : AnswerBelow op) (u : W)
-    → both machine h m w.seen (exec_result_in (λ v. record (w.real) { blocks = v }) (came_to h op w.real.blocks (in_tables w.real.blocks.state d))) ≡ Ran b u → d ≡ Ran b u.real.blocks.state.tables
-on_tables h op m w Waits b u e = absurd (never_ran b u e)
-on_tables h op m w (Stops t) b u e = (let q : Stops _ ≡ Ran b u = e in cc)
-on_tables h op m w (Ran a t) b u e = λ i. Ran (answer_or b (e i)) ((ran_to u (e i)).real.blocks.state.tables)
+on_tables : (version : Version) (h : ℕ) (op : steps.Op) (m : AnswerBelow op → Option (ActOf (machine version))) (w : W) (d : ExecResult (AnswerBelow op) TablesState)
+    (b : AnswerBelow op) (u : W)
+    → both (machine version) h m w.seen (exec_result_in (λ v. record (w.real) { blocks = v }) (came_to h op w.real.blocks (in_tables w.real.blocks.state d))) ≡ Ran b u → d ≡ Ran b u.real.blocks.state.tables
+on_tables version h op m w Waits b u e = absurd (never_ran b u e)
+on_tables version h op m w (Stops t) b u e = (let q : Stops _ ≡ Ran b u = e in cc)
+on_tables version h op m w (Ran a t) b u e = λ i. Ran (answer_or b (e i)) ((ran_to u (e i)).real.blocks.state.tables)
 
 module _ (sizes : Super) (h : ℕ) (w : W) where
   -- The program's first step ran, which noted nothing, and the program goes on. That can't be.
-  abbrev pub ActsAtOnce : {A : Type 0} → Prog steps.Op AnswerBelow (ActOf machine) A → Type 0
+  abbrev pub ActsAtOnce : {A : Type 0} → Prog steps.Op AnswerBelow (ActOf (machine sizes.version)) A → Type 0
   ActsAtOnce (Ret a) = Unit {0}
   ActsAtOnce (Do op m k) =
-      (x : Outside) (b : AnswerBelow op) (u : W) → (block_calls sizes).M.go h x op m w ≡ Ran b u → ◌≡◌ {A = List Operation} (own h (act_places whole_inodes h (m b) w.seen)) [] → Shows w.real.blocks w.seen → Shows u.real.blocks u.seen
+      (x : Outside) (b : AnswerBelow op) (u : W) → (block_calls sizes).M.go h x op m w ≡ Ran b u → ◌≡◌ {A = List Operation} (own h (act_places (whole_inodes sizes.version) h (m b) w.seen)) [] → Shows w.real.blocks w.seen → Shows u.real.blocks u.seen
       → (IsAtEnd (k b) → ⊥) → ⊥
 
   abbrev now : TablesState
@@ -85,13 +87,13 @@ module _ (sizes : Super) (h : ℕ) (w : W) where
 
   -- a step of the tables ran, and the world above is seen as before
   on_seen : (op : above.Op) (m : above.Answer op → Option Mark) (lop : steps.Op) (d : ExecResult (AnswerBelow lop) TablesState) (b : AnswerBelow lop) (u : W)
-      → both machine h (λ _. acts op above.Room m) w.seen (exec_result_in (λ v. record (w.real) { blocks = v }) (came_to h lop w.real.blocks (in_tables w.real.blocks.state d))) ≡ Ran b u
-      → ◌≡◌ {A = List Operation} (own h (act_places whole_inodes h (acts op above.Room m) w.seen)) [] → Shows u.real.blocks u.seen
+      → both (machine sizes.version) h (λ _. acts op above.Room m) w.seen (exec_result_in (λ v. record (w.real) { blocks = v }) (came_to h lop w.real.blocks (in_tables w.real.blocks.state d))) ≡ Ran b u
+      → ◌≡◌ {A = List Operation} (own h (act_places (whole_inodes sizes.version) h (acts op above.Room m) w.seen)) [] → Shows u.real.blocks u.seen
       → (d ≡ Ran b u.real.blocks.state.tables) × tables.Shows u.real.blocks.state.tables w.seen (loaded u.real.blocks.state.tables)
   on_seen op m lop d b u ran none after = (
-    on_tables h lop (λ _. acts op above.Room m) w d b u ran,
+    on_tables sizes.version h lop (λ _. acts op above.Room m) w d b u ran,
     subst (λ (g : above.World). tables.Shows u.real.blocks.state.tables g (loaded u.real.blocks.state.tables))
-        (seen_is h (λ _. acts op above.Room m) w.seen (exec_result_in (λ v. record (w.real) { blocks = v }) (came_to h lop w.real.blocks (in_tables w.real.blocks.state d))) b u ran ∙ (none_made h w.seen (acts op above.Room m) none).0) after.tables,
+        (seen_is sizes.version h (λ _. acts op above.Room m) w.seen (exec_result_in (λ v. record (w.real) { blocks = v }) (came_to h lop w.real.blocks (in_tables w.real.blocks.state d))) b u ran ∙ (none_made sizes.version h w.seen (acts op above.Room m) none).0) after.tables,
   )
 
   pub acts_at_once : (op : above.Op) (c : Carry) (m : above.Answer op → Option Mark) → time_of op ≡ InFirst → ActsAtOnce (handlers sizes c op m)
@@ -111,5 +113,5 @@ module _ (sizes : Super) (h : ℕ) (w : W) where
       let r = on_seen (LockOpen fd n) m (steps.LockOpen fd) (steps.lock_open h now (file_named h fd now)) b u ran none after in
       open_taken h now u.real.blocks.state.tables w.seen (loaded now) (loaded u.real.blocks.state.tables) b shows.tables r.1 (file_named h fd now) r.0
   acts_at_once Leave c m e = λ x b u ran none shows after goes.
-      none_is _ [] (sym (own_one {A = Operation} h (record { op = Leave; answer = tt; mark = m tt; told = told_by h (m tt) w.seen })) ∙ none)
+      none_is _ [] (sym (own_one {A = Operation} h (record { op = Leave; answer = tt; mark = m tt; told = told_by sizes.version h (m tt) w.seen })) ∙ none)
   acts_at_once op c m e = absurd cc

@@ -1,6 +1,5 @@
 -- What a step makes of a state, by its hart's call and by the outcome of the operation.
-use Rattle.inode_machine.specs.VersionOne as one
-use Rattle.run_laws.proofs.Vocabulary.{◌≡◌, ℕ, suc, Option, Some, None, Bool, true, false, List, [], refl, ◌∙◌, ap, Prog, Ret, Do, ExecResult, PartOf as P, OpWithAnswer, own, onto, Theory, Run, State, Step, WasIdle, WasStopped, DidRun, Made, changed, placed, all_told, unchanged, moved, tried, step_prog, step_unless, step_run, makes, MoveMachine, Reply, theory_of, IsAtEnd}
+use Rattle.run_laws.proofs.Vocabulary.{◌≡◌, ℕ, suc, Option, Some, None, Bool, true, false, List, [], refl, ◌∙◌, ap, Prog, Ret, Do, ExecResult, PartOf as P, OpWithAnswer, own, onto, Theory, Run, State, Step, WasIdle, WasStopped, DidRun, Made, changed, placed, all_told, unchanged, moved, tried, step_prog, step_unless, step_run, makes, MoveMachine, Reply, theory_of, IsAtEnd, Version}
 use Rattle.inode_machine.specs.Kept as kept
 
 module _ (T : Theory) (h : ℕ) (s : State T) where
@@ -41,17 +40,18 @@ module _ (T : Theory) (h : ℕ) (s : State T) where
   moved_on r did ps (Do op m k) w goes = refl
 
 -- what it places
-module _ (N : MoveMachine) (h : ℕ) (x : N.Outside) (s : State (theory_of N)) where
-  pub idle_places : s.running h ≡ None → one.placed N (Step h x) s ≡ []
-  idle_places e = ap (λ (o : Option (Run (theory_of N))). one.placed_run N h x s o) e
+module _ (version : Version) (N : MoveMachine) (h : ℕ) (x : N.Outside) (s : State (theory_of version N)) where
+  pub idle_places : s.running h ≡ None → kept.placed version N (Step h x) s ≡ []
+  idle_places e = ap (λ (o : Option (Run (theory_of version N))). kept.placed_run version N h x s o) e
 
-  pub stopped_places : (r : Run (theory_of N)) → s.running h ≡ Some r → s.stopped ≡ true → one.placed N (Step h x) s ≡ []
-  stopped_places r e on = ap (λ (o : Option (Run (theory_of N))). one.placed_run N h x s o) e ∙ ap (λ (b : Bool). kept.placed_unless N h x s.world b r.prog) on
+  pub stopped_places : (r : Run (theory_of version N)) → s.running h ≡ Some r → s.stopped ≡ true → kept.placed version N (Step h x) s ≡ []
+  stopped_places r e on =
+      ap (λ (o : Option (Run (theory_of version N))). kept.placed_run version N h x s o) e ∙ ap (λ (b : Bool). kept.placed_unless N h x s.world b r.prog) on
 
-  pub tried_places : (r : Run (theory_of N)) (op : N.Op) (m : N.Answer op → Option N.Mark) (k : N.Answer op → Prog N.Op N.Answer N.Mark Reply) (d : ExecResult (N.Answer op) N.World)
-      → s.running h ≡ Some r → s.stopped ≡ false → r.prog ≡ Do op m k → N.go h x op m s.world ≡ d → one.placed N (Step h x) s ≡ kept.placed_tried N (λ a. N.places h op a (m a) s.world) d
+  pub tried_places : (r : Run (theory_of version N)) (op : N.Op) (m : N.Answer op → Option N.Mark) (k : N.Answer op → Prog N.Op N.Answer N.Mark Reply) (d : ExecResult (N.Answer op) N.World)
+      → s.running h ≡ Some r → s.stopped ≡ false → r.prog ≡ Do op m k → N.go h x op m s.world ≡ d → kept.placed version N (Step h x) s ≡ kept.placed_tried N (λ a. N.places h op a (m a) s.world) d
   tried_places r op m k d e on asks came =
-      ap (λ (o : Option (Run (theory_of N))). one.placed_run N h x s o) e
+      ap (λ (o : Option (Run (theory_of version N))). kept.placed_run version N h x s o) e
       ∙ ap (λ (b : Bool). kept.placed_unless N h x s.world b r.prog) on
       ∙ ap (λ (p : Prog N.Op N.Answer N.Mark Reply). kept.placed_prog N h x s.world p) asks
       ∙ ap (λ (z : ExecResult (N.Answer op) N.World). kept.placed_tried N (λ a. N.places h op a (m a) s.world) z) came

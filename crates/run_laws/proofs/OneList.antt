@@ -4,7 +4,7 @@ use Rattle.hart_core.specs.declared.events.Came.{Came}
 use Rattle.path_walk.specs.declared.asks.Heard.{Heard}
 use Rattle.run_laws.specs.OneList.{disk_after}
 use Rattle.run_laws.proofs.Growing.{IsSoFar, list_on, shows_first, so_it_is}
-use Rattle.plain_tree.specs.VersionOne.{Chain}
+use Rattle.plain_tree.specs.Explains.{Chain}
 
 shown_first : (k : ℕ) (es : List Event) (cs : List Came) → take k (all_shown es cs) ≡ all_shown (take k es) (take k cs)
 shown_first zero es cs = refl
@@ -57,15 +57,15 @@ module _ {D : Type 0} (contents : D → List (List ℕ)) (failures : D → ℕ) 
       clean = clean;
     }
 
-    all_shown_are : shows N history start ≡ all_shown events cs
+    all_shown_are : shows sizes.version N history start ≡ all_shown events cs
     all_shown_are = shown_is contents failures device w rests events cs new history is clean
 
     all_started : (Q : ℕ → Call → Type 0) → All (λ (c : TracedCall). Q c.hart c.call) (trace_in events cs).calls
-        → AllStarted Q (shows N history start)
+        → AllStarted Q (shows sizes.version N history start)
     all_started Q a = started contents failures device w rests events cs new history is clean Q a
 
-    trace_first : (k : ℕ) → trace_of (shows N (take k history) start) ≡ trace k
-    trace_first k = ap trace_of (shows_first N k history start ∙ ap (take k) all_shown_are ∙ shown_first k events cs)
+    trace_first : (k : ℕ) → trace_of (shows sizes.version N (take k history) start) ≡ trace k
+    trace_first k = ap trace_of (shows_first sizes.version N k history start ∙ ap (take k) all_shown_are ∙ shown_first k events cs)
 
     disk_same : (k : ℕ) → disk_left disk count (take k history) ≡ disk_after contents failures world k history
     disk_same k =
@@ -78,14 +78,14 @@ module _ {D : Type 0} (contents : D → List (List ℕ)) (failures : D → ℕ) 
       so_far = sym x.so_far;
       begins = (x.rest, x.begins);
       explains =
-          subst (λ (base : TreeData). Explains base (trace k) (list k)) rests.disk.tree
-          (subst (λ (t : Trace). Explains (tree_in disk) t (list k)) (trace_first k) x.explains);
+          subst (λ (base : TreeData). Explains sizes.version base (trace k) (list k)) rests.disk.tree
+          (subst (λ (t : Trace). Explains sizes.version (tree_in disk) t (list k)) (trace_first k) x.explains);
       stored = x.stored;
       marked = x.marked;
       past = x.past;
       tree = x.tree;
       leads =
-          subst (λ (base : TreeData). Chain (tree_of base) (before x.stored (list_on disk count history)) x.tree) rests.disk.tree
+          subst (λ (base : TreeData). Chain sizes.version (tree_of base) (before x.stored (list_on disk count history)) x.tree) rests.disk.tree
           x.leads;
       named = subst (λ (d : List (List ℕ)). IsNamedPart x.tree (tree_of (tree_in d))) (disk_same k) x.named;
     }

@@ -1,5 +1,4 @@
 -- What a call records in its transactions: at most ten blocks in each.
-use Rattle.image_versions.specs.declared.version.Version.TheVariants.{One}
 use Rattle.run_laws.proofs.Vocabulary.{◌≡◌, ◌≤◌, ◌+◌, ◌-◌, ℕ, zero, suc, true, List, [], ◌∷◌, Option, None, refl, sym, subst, arith, Super, Blocks, Reply, Call, Cause, piece, piece_count, one_if, AfterLeave, Ret, Do, unmarked, holding, lowered, after_leave, HasRoom, Spent, size, spent_after, unspent, with_bitmap, with_contents, with_record, checked_reply, joined_on, refused_to, write_from, write_piece, write_program, write_reply, writes, wrote_on, P as Above, failed, full, own_step, say, program, machine, JoinResult, Joined, NotJoined, Refused, Short, Whole, Wrote, Take, UnlockInode, UpStart, Up, WalkDown, Down, Free, Forget, Claim, Store, Fill, Enter, Clear, Empty, Slot, Install, StatFile, LockFile, ReadFile, CheckFile, JoinFile, LockOpen, WriteFile, Double, Shut, SetDirectory, Lend, LendDirectory, Release, Join, Leave, Say, transactions_are_small, join, join_file, leave, Carry, nothing, handlers, layer, is_served, AreAtMostTen, recorded_after}
 use Rattle.plain_tree.specs.declared.call.Call.TheVariants as calls
 use Rattle.plain_tree.specs.declared.step.Action.TheVariants as actions
@@ -40,7 +39,7 @@ module _ (sizes : Super) where
         rest a = then_ sizes (after_leave a) (λ b. Ret (record { answer = b; carry = c })) (no_commit sizes s few a) (λ b. ended sizes)
 
     -- each records what it spends
-    operation : (op : above.Op) (m : above.Answer op → Option above.Mark) → Fits 0 op → size (spent_after op s) ≤ 10
+    operation : (op : above.Op) (m : above.Answer op → Option above.Mark) → Fits sizes.version 0 op → size (spent_after op s) ≤ 10
         → Within sizes s (handlers sizes c op m) (spent_after op s)
     operation (Take n looking) m fits ok = takes sizes s few n looking c m
     operation (UnlockInode n) m fits ok = quiet sizes few (λ a o. refl) (λ a. ended sizes)
@@ -78,16 +77,16 @@ module _ (sizes : Super) where
   -- ---- programs of operations
 
   abbrev IsSmall : Recorded → Carry → Above Reply → Type 0
-  IsSmall o c p = StaysSmall o (lowered machine (layer sizes) (handlers sizes) c p) (λ reply u. AreAtMostTen u)
+  IsSmall o c p = StaysSmall o (lowered (machine sizes.version) (layer sizes) (handlers sizes) c p) (λ reply u. AreAtMostTen u)
 
   step : (op : above.Op) (m : above.Answer op → Option above.Mark) (k : above.Answer op → Above Reply) (c : Carry) (s t : Spent) (o : Recorded)
       → Within sizes s (handlers sizes c op m) t → Covers sizes o s
       → ((a : above.Answer op) (d : Carry) (u : Recorded) → Covers sizes u t → IsSmall u d (k a)) → IsSmall o c (Do op m k)
   step op m k c s t o within covers rest =
-      small_bind (handlers sizes c op m) (λ r. lowered machine (layer sizes) (handlers sizes) r.carry (k r.answer)) (λ a u. Covers sizes u t)
+      small_bind (handlers sizes c op m) (λ r. lowered (machine sizes.version) (layer sizes) (handlers sizes) r.carry (k r.answer)) (λ a u. Covers sizes u t)
       (λ reply u. AreAtMostTen u) o (within.stays o covers) (λ r u known. rest r.answer r.carry u known)
 
-  program_small : (p : Above Reply) (c : Carry) (s : Spent) (o : Recorded) → AllFit p → HasRoom s p → size s ≤ 10 → Covers sizes o s → IsSmall o c p
+  program_small : (p : Above Reply) (c : Carry) (s : Spent) (o : Recorded) → AllFit sizes.version p → HasRoom s p → size s ≤ 10 → Covers sizes o s → IsSmall o c p
   program_small (Ret reply) c s o fits room few covers = small_of sizes o s covers few
   program_small (Do op m k) c s o fits room few covers =
       step op m k c s (spent_after op s) o (operation s few c op m fits.0 room.0) covers
@@ -151,12 +150,13 @@ module _ (sizes : Super) where
   -- ---- calls
 
   -- one that writes nothing
-  other_small : (call : Call) → is_served call ≡ true → most_written call ≡ 0 → IsSmall None nothing (program call)
+  other_small : (call : Call) → is_served call ≡ true → most_written call ≡ 0 → IsSmall None nothing (program sizes.version call)
   other_small call served none =
-      program_small (program call) nothing unspent None (subst (λ (k : ℕ). AllFitUpTo k (program call)) none (call_fits call served))
-      (transactions_are_small One call) few_at_first tt
+      program_small (program sizes.version call) nothing unspent None
+      (subst (λ (k : ℕ). AllFitUpTo sizes.version k (program sizes.version call)) none (call_fits sizes.version call served))
+      (transactions_are_small sizes.version call) few_at_first tt
 
-  pub call_small : (call : Call) → is_served call ≡ true → IsSmall None nothing (program call)
+  pub call_small : (call : Call) → is_served call ≡ true → IsSmall None nothing (program sizes.version call)
   call_small (calls.Open path flags) served = other_small (calls.Open path flags) served refl
   call_small (calls.Read fd buffer) served = other_small (calls.Read fd buffer) served refl
   call_small (calls.Write fd bytes) served = write_small fd bytes nothing None tt

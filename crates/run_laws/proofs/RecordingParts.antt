@@ -1,5 +1,5 @@
 -- What the programs of most operations record: what the operations spend.
-use Rattle.run_laws.proofs.Vocabulary.{◌≤◌, inr, ℕ, zero, suc, ◌+◌, ◌/◌, ◌==◌, Bool, true, false, not, ◌-◌, pos, List, [], ◌∷◌, Option, Some, None, refl, arith, is_some, slice_index, take, Dinode, IndexState, Loaded, Super, numbers_in, block_len, dirents_per_block, Name, same_name, AfterLeave, Commits, Ret, bind, Handover, LockedState, Locks, ClaimedState as ClaimResult, Claims, HasNoPlace as NoPlace, NoInode, fetch, read_unless, commit_unless, commits, most_writes, after_leave, free_block, clear_bit, inode_blocks, give_back, inode_block, load_unless, put_inode, store as store_inode, address, table_of, free_numbers, free_table, free_in_table, free_indirect, freed, without_content, FilledMemory, blocks_between, end_of, fetch_at, fetch_block, fetch_named, fetch_number, filled_with, give_fetched, next_block, part_of, read_blocks, read_from, read_part, direct, Address, Direct, InTable, Aim, Named, block_count, found_in, is_directory, is_live_directory, look_at, lookup, or_next, search, search_from, with_slot, Found, Searched, cleared, first_of, index_raised, Spent, size, with_bitmap, with_contents, with_record, AtEntries, AtName, AtNothing, Query, Sight, InodeType, IsSpent, empty, free, give_content, file_locked, give_read, read_file, with_file, Apart, Carry, Emptied, Finds, Had, Has, NothingMore, Opened, claim_at, claim_from, claim_in, clear, clear_in, clear_slot, put_named, slot_found, slot_of, learned, looked, number_found, search_entries, seen_record, stat_file, stat_loaded, stat_locked, take_inode, put_record, index_in, record_in, NoMore, bitmap_no_more, record_no_more, record_spent, kind_of}
+use Rattle.run_laws.proofs.Vocabulary.{◌≤◌, inr, ℕ, zero, suc, ◌+◌, ◌/◌, ◌==◌, Bool, true, false, not, ◌-◌, pos, List, [], ◌∷◌, Option, Some, None, refl, arith, is_some, slice_index, take, Dinode, IndexState, Loaded, Super, numbers_in, block_len, dirents_per_block_of, Name, same_name, AfterLeave, Commits, Ret, bind, Handover, LockedState, Locks, ClaimedState as ClaimResult, Claims, HasNoPlace as NoPlace, NoInode, fetch, read_unless, commit_unless, commits, most_writes, after_leave, free_block, clear_bit, inode_blocks, give_back, inode_block, load_unless, put_inode, store as store_inode, address, table_of, free_numbers, free_table, free_in_table, free_indirect, freed, without_content, FilledMemory, blocks_between, end_of, fetch_at, fetch_block, fetch_named, fetch_number, filled_with, give_fetched, next_block, part_of, read_blocks, read_from, read_part, direct, Address, Direct, InTable, Aim, Named, block_count, found_in, is_directory, is_live_directory, look_at, lookup, or_next, search, search_from, with_slot, Found, Searched, cleared, first_of, index_raised, Spent, size, with_bitmap, with_contents, with_record, AtEntries, AtName, AtNothing, Query, Sight, InodeType, IsSpent, empty, free, give_content, file_locked, give_read, read_file, with_file, Apart, Carry, Emptied, Finds, Had, Has, NothingMore, Opened, claim_at, claim_from, claim_in, clear, clear_in, clear_slot, put_named, slot_found, slot_of, learned, looked, number_found, search_entries, seen_record, stat_file, stat_loaded, stat_locked, take_inode, put_record, index_in, record_in, NoMore, bitmap_no_more, record_no_more, record_spent, kind_of}
 use Rattle.group_log.specs.declared.log.AfterLeave.TheVariants.{Free}
 use Rattle.fs_machine.specs.Inodes.{Refuses}
 use Rattle.directory.specs.Programs.{Entry}
@@ -48,40 +48,43 @@ module _ (sizes : Super) where
     no_next (Some f) x next rec = ended sizes
     no_next None x next rec = rec x
 
-    no_blocks : (n : ℕ) (aim : Aim) (d : Dinode) (k : ℕ) (x : IndexState) → Nothing (search_from n aim d k x)
+    no_blocks : (n : ℕ) (aim : Aim) (d : Dinode) (k : ℕ) (x : IndexState) → Nothing (search_from sizes.version n aim d k x)
     unfolding search_from
     no_blocks zero aim d k x = ended sizes
     no_blocks (suc n) aim d k x =
-        then_ sizes (fetch_block d k) (look_at aim d k x (search_from n aim d (k + 1))) (no_block d k)
+        then_ sizes (fetch_block d k) (look_at sizes.version aim d k x (search_from sizes.version n aim d (k + 1))) (no_block d k)
         (λ f. quiet sizes few (λ a o. refl)
-        (λ a. no_next (found_in aim d k f.bytes) (index_raised d k f.bytes x) (search_from n aim d (k + 1)) (no_blocks n aim d (k + 1))))
+        (λ a. no_next (found_in sizes.version aim d k f.bytes) (index_raised sizes.version d k f.bytes x) (search_from sizes.version n aim d (k + 1))
+        (no_blocks n aim d (k + 1))))
 
-    pub no_search : (aim : Aim) (l : Loaded) → Nothing (search aim l)
+    pub no_search : (aim : Aim) (l : Loaded) → Nothing (search sizes.version aim l)
     no_search aim l =
-        no_next (first_of aim l.inode l.index) l.index (search_from (block_count l.inode - l.index.blocks) aim l.inode l.index.blocks)
-        (no_blocks (block_count l.inode - l.index.blocks) aim l.inode l.index.blocks)
+        no_next (first_of sizes.version aim l.inode l.index) l.index
+        (search_from sizes.version (block_count sizes.version l.inode - l.index.blocks) aim l.inode l.index.blocks)
+        (no_blocks (block_count sizes.version l.inode - l.index.blocks) aim l.inode l.index.blocks)
 
     -- the slot of a name sought
-    no_sought : (l : Loaded) (e : Name) → Nothing (bind (search (Named e) l) slot_found)
-    no_sought l e = then_ sizes (search (Named e) l) slot_found (no_search (Named e) l) (λ o. ended sizes)
+    no_sought : (l : Loaded) (e : Name) → Nothing (bind (search sizes.version (Named e) l) slot_found)
+    no_sought l e = then_ sizes (search sizes.version (Named e) l) slot_found (no_search (Named e) l) (λ o. ended sizes)
 
-    no_slot_of : (had : Had) (e : Name) → Nothing (slot_of had e)
+    no_slot_of : (had : Had) (e : Name) → Nothing (slot_of sizes.version had e)
     no_slot_of Apart e = ended sizes
     no_slot_of (Has l NothingMore) e = no_sought l e
     no_slot_of (Has l (Finds name k)) e =
-        either_way sizes (same_name name e) (Ret (k, l.index)) (bind (search (Named e) l) slot_found) (ended sizes) (no_sought l e)
+        either_way sizes (same_name name e) (Ret (k, l.index)) (bind (search sizes.version (Named e) l) slot_found) (ended sizes) (no_sought l e)
     no_slot_of (Has l (Opened fd offset)) e = no_sought l e
     no_slot_of Emptied e = ended sizes
 
-    no_looked : (looking : Query) (c : Carry) (n : ℕ) (l : Loaded) → Nothing (looked looking c n l)
+    no_looked : (looking : Query) (c : Carry) (n : ℕ) (l : Loaded) → Nothing (looked sizes.version looking c n l)
     no_looked AtNothing c n l = ended sizes
     no_looked (AtName e) c n l =
-        then_ sizes (lookup e l) (λ o. seen_record c n (record l { index = o.index }) (learned e o.found) (number_found o.found) true)
-        (either_way sizes (is_live_directory l.inode) (search (Named e) l) (Ret (record { found = None; index = l.index })) (no_search (Named e) l) (ended sizes))
+        then_ sizes (lookup sizes.version e l) (λ o. seen_record c n (record l { index = o.index }) (learned e o.found) (number_found o.found) true)
+        (either_way sizes (is_live_directory l.inode) (search sizes.version (Named e) l) (Ret (record { found = None; index = l.index })) (no_search (Named e) l)
+        (ended sizes))
         (λ o. ended sizes)
     no_looked AtEntries c n l =
-        then_ sizes (search_entries l) (λ o. seen_record c n (record l { index = o.index }) NothingMore None (not (is_some o.found)))
-        (either_way sizes (is_directory l.inode) (search Entry l) (Ret (record { found = None; index = l.index })) (no_search Entry l) (ended sizes))
+        then_ sizes (search_entries sizes.version l) (λ o. seen_record c n (record l { index = o.index }) NothingMore None (not (is_some o.found)))
+        (either_way sizes (is_directory l.inode) (search sizes.version Entry l) (Ret (record { found = None; index = l.index })) (no_search Entry l) (ended sizes))
         (λ o. ended sizes)
 
     no_stat : (c : Carry) (a : LockedState) → Nothing (stat_locked sizes c a)
@@ -120,7 +123,7 @@ module _ (sizes : Super) where
     pub takes : (n : ℕ) (looking : Query) (c : Carry) (m : Sight → Option above.Mark) → Nothing (take_inode sizes n looking c m)
     takes n looking c m =
         quiet sizes few (λ a o. refl)
-        (λ content. then_ sizes (load_unless sizes.inodestart n content) (looked looking c n) (no_load sizes.inodestart n content)
+        (λ content. then_ sizes (load_unless sizes.inodestart n content) (looked sizes.version looking c n) (no_load sizes.inodestart n content)
         (λ d. no_looked looking c n d))
 
     -- ---- what records blocks that s names
@@ -234,11 +237,11 @@ module _ (sizes : Super) where
         let t : Spent = with_record n s in
         let less : size (with_record n s) ≤ 10 = omega (arith, few) in
         from sizes (record_no_more n s)
-        (then_ sizes (slot_of (c n) e) (clear_slot sizes n e c m) (no_slot_of t less (c n) e)
-        (λ at. then_ sizes (fetch_block (record_in c n) (at.0 / dirents_per_block)) (clear_in sizes n e c m at)
-        (no_block t less (record_in c n) (at.0 / dirents_per_block))
+        (then_ sizes (slot_of sizes.version (c n) e) (clear_slot sizes n e c m) (no_slot_of t less (c n) e)
+        (λ at. then_ sizes (fetch_block (record_in c n) (at.0 / dirents_per_block_of sizes.version)) (clear_in sizes n e c m at)
+        (no_block t less (record_in c n) (at.0 / dirents_per_block_of sizes.version))
         (λ f. records_one sizes less
-        (λ a. puts_named r few (above.Op.Clear n e) above.Room m (tt {0}) n (record { inode = with_slot at.0 (record_in c n); index = cleared at.0 at.1 }) c
+        (λ a. puts_named r few (above.Op.Clear n e) above.Room m (tt {0}) n (record { inode = with_slot sizes.version at.0 (record_in c n); index = cleared at.0 at.1 }) c
         (record_spent sizes n (with_contents 1 s))))))
 
   module _ (s : Spent) (few : size s ≤ 10) where

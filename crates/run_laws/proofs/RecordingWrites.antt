@@ -1,6 +1,7 @@
 -- What the programs record that write: two blocks for each block that they write to, beside the bitmap and the inode's record.
-use Rattle.run_laws.proofs.Vocabulary.{◌≡◌, ◌⊎◌, ⊎_elim, inl, inr, ◌<◌, ◌≤◌, ◌+◌, ◌-◌, ◌*◌, ◌/◌, ℕ, zero, suc, ◌==◌, nat_lt, Bool, true, false, if◌then◌else◌, List, length, Option, Some, None, refl, sym, subst, arith, slice_index, cases_lt, Used, Dinode, IndexState, Loaded, no_index, Super, spell_dirent, numbers_in, block_len, Cause, Name, Ret, Do, bind, unmarked, marked_by, first_clear_below, give_zeros, take_first, zero_found, slot_for, Unused, first_of, found_in, look_at, most_slots, index_raised, search, slot_count, with_entry, fetch, read_unless, Put, Address, Direct, InTable, Located, address, table_of, blocks_between, fetch_block, direct, most_blocks, WriteResult, front_of, grown, locate, locate_at, located, look_up, name_direct, name_in_table, put_part, store_written, take_one, with_address, with_table, write_blocks, write_in, write_located, write_part, store, Spent, size, with_bitmap, with_contents, with_record, EntryResult, Wrote, Enter, Fill, IsSpent, dots, enter, enter_in, entered_to, fill, filled_to, look_last, put_grown, search_full, seek_free, seek_full, Acts, acts, Carry, NoMore, loaded_in, record_in, with_index, give_written, refused_in, write_file, write_unless, many_between, none_there, record_spent, AreAtMostTen, dirent_len, name_len}
+use Rattle.run_laws.proofs.Vocabulary.{◌≡◌, ◌⊎◌, ⊎_elim, inl, inr, ◌<◌, ◌≤◌, ◌+◌, ◌-◌, ◌*◌, ◌/◌, ℕ, zero, suc, ◌==◌, nat_lt, Bool, true, false, if◌then◌else◌, List, length, Option, Some, None, refl, sym, ap, ◌∙◌, subst, arith, slice_index, cases_lt, Used, Dinode, IndexState, Loaded, no_index, Super, spell_dirent, numbers_in, block_len, Cause, Name, Ret, Do, bind, unmarked, marked_by, first_clear_below, give_zeros, take_first, zero_found, slot_for, Unused, first_of, found_in, look_at, most_slots, index_raised, search, slot_count, with_entry, fetch, read_unless, Put, Address, Direct, InTable, Located, address, table_of, blocks_between, fetch_block, direct, most_blocks, WriteResult, front_of, grown, locate, locate_at, located, look_up, name_direct, name_in_table, put_part, store_written, take_one, with_address, with_table, write_blocks, write_in, write_located, write_part, store, Spent, size, with_bitmap, with_contents, with_record, EntryResult, Wrote, Enter, Fill, IsSpent, dots, enter, enter_in, entered_to, fill, filled_to, look_last, put_grown, search_full, seek_free, seek_full, Acts, acts, Carry, NoMore, loaded_in, record_in, with_index, give_written, refused_in, write_file, write_unless, many_between, none_there, record_spent, AreAtMostTen, dirent_len_of, dirents_per_block_of, new_directory_size_of, name_len_of, ◌%◌, Version}
 use Rattle.std.proofs.Common.{drop}
+use Rattle.image_versions.proofs.Places.{in_range, in_their_blocks, inside, new_fits}
 use Rattle.inode_machine.specs.World as above
 use Rattle.inodes_on_blocks.specs.Handlers.{P}
 use Rattle.run_laws.proofs.Recording.{Covers, Has, Recorded, StaysSmall, Within, covers_again, covers_more, covers_named, covers_other}
@@ -11,10 +12,23 @@ use Rattle.run_laws.proofs.SearchEnds.{dots_spelled, spelled}
 -- ---- how many blocks
 
 -- a slot's bytes are in one
-slot_block : (slot : ℕ) → blocks_between (dirent_len * slot) (dirent_len * slot + dirent_len) ≤ 1
-slot_block slot = let many = many_between (dirent_len * slot) (dirent_len * slot + dirent_len) (omega arith) in omega (arith, many)
+slot_block : (version : Version) (slot : ℕ) → blocks_between (dirent_len_of version * slot) (dirent_len_of version * slot + dirent_len_of version) ≤ 1
+slot_block version slot =
+    let wide = (in_range version).2 in
+    let many = many_between (dirent_len_of version * slot) (dirent_len_of version * slot + dirent_len_of version) (omega (arith, wide)) in
+    let lies = in_their_blocks version slot in
+    let within = inside version (slot % dirents_per_block_of version) lies.0 in
+    omega (arith, wide, many, lies.1, within)
 
--- and a piece's in four
+-- so are those of a new directory's two
+dots_block : (version : Version) → blocks_between 0 (0 + new_directory_size_of version) ≡ 1
+dots_block version =
+    let wide = (in_range version).2 in
+    let fits = (new_fits version).0 in
+    let many = many_between 0 (0 + new_directory_size_of version) (omega (arith, wide)) in
+    omega (arith, wide, fits, many)
+
+-- and a piece's are in four
 piece_blocks : (at upto : ℕ) → upto ≤ at + 3072 → blocks_between at upto ≤ 4
 piece_blocks at upto short =
     ⊎_elim
@@ -247,28 +261,32 @@ module _ (sizes : Super) where
         puts_named sizes with_both few op outside m answer n (record { inode = grown w; index = x }) c (record_spent sizes n (with_contents k (with_bitmap s)))
 
   module _ (s : Spent) (few : size s ≤ 10) where
-    no_full : (mark : Option Acts) (n : ℕ) (d : Dinode) (k : ℕ) (x : IndexState) → Within sizes s (search_full mark n d k x) s
+    no_full : (mark : Option Acts) (n : ℕ) (d : Dinode) (k : ℕ) (x : IndexState) → Within sizes s (search_full sizes.version mark n d k x) s
     unfolding search_full
     no_full mark zero d k x =
-        then_ sizes (fetch_block d k) (look_last mark d k x) (no_block sizes s few d k) (λ f. quiet sizes few (λ a o. refl) (λ a. ended sizes))
+        then_ sizes (fetch_block d k) (look_last sizes.version mark d k x) (no_block sizes s few d k) (λ f. quiet sizes few (λ a o. refl) (λ a. ended sizes))
     no_full mark (suc n) d k x =
-        then_ sizes (fetch_block d k) (look_at Unused d k x (search_full mark n d (k + 1))) (no_block sizes s few d k)
+        then_ sizes (fetch_block d k) (look_at sizes.version Unused d k x (search_full sizes.version mark n d (k + 1))) (no_block sizes s few d k)
         (λ f. quiet sizes few (λ a o. refl)
-        (λ a. no_next sizes s few (found_in Unused d k f.bytes) (index_raised d k f.bytes x) (search_full mark n d (k + 1)) (no_full mark n d (k + 1))))
+        (λ a. no_next sizes s few (found_in sizes.version Unused d k f.bytes) (index_raised sizes.version d k f.bytes x) (search_full sizes.version mark n d (k + 1))
+        (no_full mark n d (k + 1))))
 
-    no_seek : (mark : Option Acts) (l : Loaded) → Within sizes s (seek_free mark l) s
+    no_seek : (mark : Option Acts) (l : Loaded) → Within sizes s (seek_free sizes.version mark l) s
     no_seek mark l =
-        either_way sizes (nat_lt (slot_count l.inode) most_slots) (search Unused l) (seek_full mark l) (no_search sizes s few Unused l)
-        (no_next sizes s few (first_of Unused l.inode l.index) l.index (search_full mark (most_blocks - 1 - l.index.blocks) l.inode l.index.blocks)
+        either_way sizes (nat_lt (slot_count sizes.version l.inode) (most_slots sizes.version)) (search sizes.version Unused l) (seek_full sizes.version mark l)
+        (no_search sizes s few Unused l)
+        (no_next sizes s few (first_of sizes.version Unused l.inode l.index) l.index
+        (search_full sizes.version mark (most_blocks - 1 - l.index.blocks) l.inode l.index.blocks)
         (no_full mark (most_blocks - 1 - l.index.blocks) l.inode l.index.blocks))
 
-  pub enters : (d : ℕ) (e : Name) (n : ℕ) (c : Carry) (m : EntryResult → Option above.Mark) (s : Spent) → length e ≤ name_len
+  pub enters : (d : ℕ) (e : Name) (n : ℕ) (c : Carry) (m : EntryResult → Option above.Mark) (s : Spent) → length e ≤ name_len_of sizes.version
       → size (with_record d (with_bitmap (with_contents 2 s))) ≤ 10
       → Within sizes s (enter sizes d e n c m) (with_record d (with_bitmap (with_contents 2 s)))
   enters d e n c m s short few =
       from sizes (emptied sizes d s)
-      (then_ sizes (seek_free (acts (Enter d e n) above.Room m) (loaded_in c d)) (λ o. enter_in sizes d e n c m o.index (slot_for (record_in c d) o.found))
-      (no_seek b less (acts (Enter d e n) above.Room m) (loaded_in c d)) (λ o. entered o.index (slot_for (record_in c d) o.found)))
+      (then_ sizes (seek_free sizes.version (acts (Enter d e n) above.Room m) (loaded_in c d))
+      (λ o. enter_in sizes d e n c m o.index (slot_for sizes.version (record_in c d) o.found))
+      (no_seek b less (acts (Enter d e n) above.Room m) (loaded_in c d)) (λ o. entered o.index (slot_for sizes.version (record_in c d) o.found)))
     where
       b : Spent
       b = with_record d (with_bitmap s)
@@ -277,26 +295,26 @@ module _ (sizes : Super) where
       less = omega (arith, few)
 
       bytes : List ℕ
-      bytes = spell_dirent (Used n e)
+      bytes = spell_dirent sizes.version (Used n e)
 
       put : (x : IndexState) (slot : ℕ) (w : WriteResult) → Within sizes (with_contents 2 b) (entered_to sizes d e n c m x slot w) (with_contents 2 b)
       put x slot w =
-          let y : IndexState = with_entry slot (spell_dirent (Used n e)) x in
-          either_way sizes (w.upto == dirent_len * (slot + 1)) (put_grown (Enter d e n) above.Room m above.InPlace sizes d c y w)
+          let y : IndexState = with_entry sizes.version slot (spell_dirent sizes.version (Used n e)) x in
+          either_way sizes (w.upto == dirent_len_of sizes.version * (slot + 1)) (put_grown (Enter d e n) above.Room m above.InPlace sizes d c y w)
           (put_grown (Enter d e n) (above.RoomFor 0) m above.NoBlock sizes d c x w)
           (grows (Enter d e n) m d c 2 s above.Room above.InPlace y w few) (grows (Enter d e n) m d c 2 s (above.RoomFor 0) above.NoBlock x w few)
 
-      count : (slot : ℕ) → blocks_between (dirent_len * slot) (dirent_len * slot + length (spell_dirent (Used n e))) ≤ 1
-      count slot = subst (λ (k : ℕ). blocks_between (dirent_len * slot) (dirent_len * slot + k) ≤ 1)
-          (sym (spelled n e short)) (slot_block slot)
+      count : (slot : ℕ) → blocks_between (dirent_len_of sizes.version * slot) (dirent_len_of sizes.version * slot + length (spell_dirent sizes.version (Used n e))) ≤ 1
+      count slot = subst (λ (k : ℕ). blocks_between (dirent_len_of sizes.version * slot) (dirent_len_of sizes.version * slot + k) ≤ 1)
+          (sym (spelled sizes.version n e short)) (slot_block sizes.version slot)
 
       entered : (x : IndexState) (slot : ℕ) → Within sizes b (enter_in sizes d e n c m x slot) (with_contents 2 b)
       entered x slot =
-          either_way sizes (nat_lt slot most_slots)
-          (bind (write_blocks (blocks_between (dirent_len * slot) (dirent_len * slot + length bytes)) sizes (dirent_len * slot) bytes (record_in c d)) (entered_to sizes d e n c m x slot))
+          either_way sizes (nat_lt slot (most_slots sizes.version))
+          (bind (write_blocks (blocks_between (dirent_len_of sizes.version * slot) (dirent_len_of sizes.version * slot + length bytes)) sizes (dirent_len_of sizes.version * slot) bytes (record_in c d)) (entered_to sizes d e n c m x slot))
           (Ret (record { answer = above.NoSlot; carry = with_index c d x }))
-          (then_ sizes (write_blocks (blocks_between (dirent_len * slot) (dirent_len * slot + length bytes)) sizes (dirent_len * slot) bytes (record_in c d)) (entered_to sizes d e n c m x slot)
-          (writes_few (blocks_between (dirent_len * slot) (dirent_len * slot + length bytes)) 1 (dirent_len * slot) bytes (record_in c d) b (inr (refl, refl)) (count slot) (omega (arith, few)))
+          (then_ sizes (write_blocks (blocks_between (dirent_len_of sizes.version * slot) (dirent_len_of sizes.version * slot + length bytes)) sizes (dirent_len_of sizes.version * slot) bytes (record_in c d)) (entered_to sizes d e n c m x slot)
+          (writes_few (blocks_between (dirent_len_of sizes.version * slot) (dirent_len_of sizes.version * slot + length bytes)) 1 (dirent_len_of sizes.version * slot) bytes (record_in c d) b (inr (refl, refl)) (count slot) (omega (arith, few)))
           (λ w. put x slot w))
           (ended_with sizes (no_contents 2 b))
 
@@ -304,17 +322,20 @@ module _ (sizes : Super) where
       → Within sizes s (fill sizes n d c m) (with_record n (with_bitmap (with_contents 1 s)))
   fills n d c m s few =
       from sizes (emptied sizes n s)
-      (then_ sizes (write_blocks (blocks_between 0 (0 + length (dots n d))) sizes 0 (dots n d) (record_in c n)) (filled_to sizes n d c m)
-      (subst (λ (k : ℕ). Within sizes b (write_blocks (blocks_between 0 (0 + k)) sizes 0 (dots n d) (record_in c n)) (with_contents 1 b)) (sym (dots_spelled n d))
-      (writes_first (dots n d) (record_in c n) b (inr (refl, refl)) (omega (arith, few))))
+      (then_ sizes (write_blocks (blocks_between 0 (0 + length (dots sizes.version n d))) sizes 0 (dots sizes.version n d) (record_in c n)) (filled_to sizes n d c m)
+      (subst (λ (k : ℕ). Within sizes b (write_blocks k sizes 0 (dots sizes.version n d) (record_in c n)) (with_contents 1 b)) (sym one)
+      (writes_first (dots sizes.version n d) (record_in c n) b (inr (refl, refl)) (omega (arith, few))))
       (λ w. put w))
     where
       b : Spent
       b = with_record n (with_bitmap s)
 
+      one : blocks_between 0 (0 + length (dots sizes.version n d)) ≡ 1
+      one = ap (λ (k : ℕ). blocks_between 0 (0 + k)) (dots_spelled sizes.version n d) ∙ dots_block sizes.version
+
       put : (w : WriteResult) → Within sizes (with_contents 1 b) (filled_to sizes n d c m w) (with_contents 1 b)
       put w =
-          either_way sizes (w.upto == 2 * dirent_len) (put_grown (Fill n d) above.Room m true sizes n c no_index w) (put_grown (Fill n d) (above.RoomFor 0) m false sizes n c no_index w)
+          either_way sizes (w.upto == new_directory_size_of sizes.version) (put_grown (Fill n d) above.Room m true sizes n c no_index w) (put_grown (Fill n d) (above.RoomFor 0) m false sizes n c no_index w)
           (grows (Fill n d) m n c 1 s above.Room true no_index w few) (grows (Fill n d) m n c 1 s (above.RoomFor 0) false no_index w few)
 
   -- ---- a piece of a file

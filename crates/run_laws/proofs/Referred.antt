@@ -6,11 +6,14 @@ use Rattle.inode_machine.specs.Vocabulary.{Cause, Name, ExecResult as Result, Ra
 use Rattle.inode_machine.specs.Exec.{blank, counted_up, moved_in, with_bytes, with_count, with_dots, with_entry, with_no_bytes, without_entry, changed_record, claim_if, claimed, close_at, close_if, counted_down, double_at, double_if, down_if, enter_if, entry_of, file_count, fill_if, first_from, has_place, install_if, is_dead, is_empty_slot, is_full_directory, is_last, join_at, lend_if, lend_last, lock_at, lock_if, locked, next_used, offset_of, place_count, read_refused, referenced, slot_at, slot_if, start_if, start_number, unlocked, up_if, walk_down_if, with_lent, with_offset, with_record, write_if, write_in, write_refused}
 use Rattle.inode_machine.specs.Inodes.{InodeType, face_or}
 use Rattle.inode_machine.specs.Rules.{Inv}
-use Rattle.inode_machine.specs.VersionOne.{May, exec, face_of, go, marked, part_of, read_at, seen_in, stat_at, with_mark, write_at}
+use Rattle.inode_machine.specs.Rules.{May}
+use Rattle.inode_machine.specs.Exec.{exec, part_of, read_at, stat_at, write_at}
+use Rattle.inode_machine.specs.Inodes.{face_of, seen_in}
+use Rattle.inode_machine.specs.Marks.{go, marked, with_mark}
 use Rattle.inode_machine.specs.World.{Answer, Entry, LocksIt, Mark, New, NoPlace, Op, Outside, Picks, Room, RoomFor, World}
 use Rattle.inode_machine.specs.World.Mark.{Fills, Frees, Makes, Mends, Orphans, Spoils}
 use Rattle.inode_machine.specs.World.Op.{CheckFile, Claim, Clear, Double, Down, Empty, Enter, Fill, Forget, Free, Install, Join, JoinFile, Leave, Lend, LendDirectory, LockFile, LockOpen, ReadFile, Release, Say, SetDirectory, Shut, Slot, StatFile, Store, Take, UnlockInode, Up, UpStart, WalkDown, WriteFile}
-use Rattle.image_versions.specs.declared.version.Version.TheVariants.{One}
+use Rattle.image_versions.specs.declared.version.Version.{Version}
 
 -- each inode that has a record without links is referred to
 abbrev pub DeadAreReferredTo : World → Type 0
@@ -100,14 +103,14 @@ freed w n dead i is = elim (same_or i n) [
 
 -- ---- marks leave all that
 
-marked_same : (h : ℕ) (m : Option Mark) (w : World) → counts_of (marked h m w) ≡ counts_of w
-marked_same h None w = refl
-marked_same h (Some (Makes v)) w = refl
-marked_same h (Some (Frees n)) w = refl
-marked_same h (Some (Orphans n)) w = refl
-marked_same h (Some Fills) w = refl
-marked_same h (Some Mends) w = refl
-marked_same h (Some (Spoils s)) w = refl
+marked_same : (version : Version) (h : ℕ) (m : Option Mark) (w : World) → counts_of (marked version h m w) ≡ counts_of w
+marked_same version h None w = refl
+marked_same version h (Some (Makes v)) w = refl
+marked_same version h (Some (Frees n)) w = refl
+marked_same version h (Some (Orphans n)) w = refl
+marked_same version h (Some Fills) w = refl
+marked_same version h (Some Mends) w = refl
+marked_same version h (Some (Spoils s)) w = refl
 
 -- ---- operations
 
@@ -191,20 +194,20 @@ install_goes h w f inode_type None b = λ dead. dead
 install_goes h w f inode_type (Some s) false = λ dead. dead
 install_goes h w f inode_type (Some s) true = λ dead. dead
 
-stat_goes : (h : ℕ) (w : World) (o : Option Entry) → Goes w (stat_at h w o)
-stat_goes h w None = λ dead. dead
-stat_goes h w (Some e) = lock_goes h e.file.number (Some (e.file.number, face_or (face_of (w.disk e.file.number)))) w (w.lock e.file.number)
+stat_goes : (version : Version) (h : ℕ) (w : World) (o : Option Entry) → Goes w (stat_at version h w o)
+stat_goes version h w None = λ dead. dead
+stat_goes version h w (Some e) = lock_goes h e.file.number (Some (e.file.number, face_or (face_of version (w.disk e.file.number)))) w (w.lock e.file.number)
 
 file_goes : (h : ℕ) (w : World) (o : Option Entry) (c : Option Cause) → Goes w (lock_at h w o c)
 file_goes h w o (Some c) = λ dead. dead
 file_goes h w None None = λ dead. dead
 file_goes h w (Some e) None = lock_goes h e.file.number (LocksIt e.file.number e.file.offset) w (w.lock e.file.number)
 
-read_goes : (w : World) (n count : ℕ) (s : Option ℕ) (o : Option Entry) → Goes w (read_at w n count s o)
-read_goes w n count s None = unlocked_stays n w (w.alone n)
-read_goes w n count s (Some e) =
+read_goes : (version : Version) (w : World) (n count : ℕ) (s : Option ℕ) (o : Option Entry) → Goes w (read_at version w n count s o)
+read_goes version w n count s None = unlocked_stays n w (w.alone n)
+read_goes version w n count s (Some e) =
     let v : World = unlocked n w (w.alone n) in
-    let by : ℕ = length (part_of (w.disk n) e.file.offset count) in
+    let by : ℕ = length (part_of version (w.disk n) e.file.offset count) in
     stays w (with_offset v s e by) (offset_same v s e by ∙ unlocked_same n w (w.alone n))
 
 join_goes : (h : ℕ) (w : World) (o : Option Entry) (c : Option Cause) → Goes w (join_at h w o c)
@@ -230,10 +233,10 @@ write_if_goes : (w : World) (s : Option ℕ) (e : Entry) (n : ℕ) (bytes : List
 write_if_goes w s e n bytes x (Some c) some = unlocked_stays n w (w.alone n)
 write_if_goes w s e n bytes x None some = write_in_goes w s e n bytes x some
 
-write_goes : (w : World) (s : Option ℕ) (n : ℕ) (bytes : List ℕ) (x : Outside) (o : Option Entry) → 0 < w.refs n
-    → Goes w (write_at w s n bytes x o)
-write_goes w s n bytes x None some = unlocked_stays n w (w.alone n)
-write_goes w s n bytes x (Some e) some = write_if_goes w s e n bytes x (write_kind One (node_or (w.disk n)).kind e.file.offset bytes) some
+write_goes : (version : Version) (w : World) (s : Option ℕ) (n : ℕ) (bytes : List ℕ) (x : Outside) (o : Option Entry) → 0 < w.refs n
+    → Goes w (write_at version w s n bytes x o)
+write_goes version w s n bytes x None some = unlocked_stays n w (w.alone n)
+write_goes version w s n bytes x (Some e) some = write_if_goes w s e n bytes x (write_kind version (node_or (w.disk n)).kind e.file.offset bytes) some
 
 double_if_goes : (h : ℕ) (w : World) (s : ℕ) (e : Entry) (b : Bool) → Goes w (double_if h w s e b)
 double_if_goes h w s e true = λ dead. dead
@@ -261,54 +264,54 @@ lend_goes : (h child : ℕ) (w : World) (o : Option ℕ) → Goes w (lend_if h w
 lend_goes h child w None = raised w (moved_in w h child) (w.desks h).directory refl refl
 lend_goes h child w (Some i) = lent_stays w h child i (next_used (i + 1) (w.desks h).fds)
 
-exec_goes : (h : ℕ) (x : Outside) (op : Op) (w : World) → Inv w → May h op w → Goes w (exec h x op w)
-exec_goes h x (Take n looking) w inv may = lock_goes h n (seen_in n looking (w.disk n)) w (w.lock n)
-exec_goes h x (UnlockInode n) w inv may = unlocked_stays n w (w.alone n)
-exec_goes h x (UpStart absolute) w inv may =
+exec_goes : (version : Version) (h : ℕ) (x : Outside) (op : Op) (w : World) → Inv w → May version h op w → Goes w (exec version h x op w)
+exec_goes version h x (Take n looking) w inv may = lock_goes h n (seen_in version n looking (w.disk n)) w (w.lock n)
+exec_goes version h x (UnlockInode n) w inv may = unlocked_stays n w (w.alone n)
+exec_goes version h x (UpStart absolute) w inv may =
     start_goes h (start_number (w.desks h) absolute) w (has_place w (start_number (w.desks h) absolute))
-exec_goes h x (Up n) w inv may = up_goes h n w (has_place w n)
-exec_goes h x (WalkDown n) w inv may = walk_down_goes h n w (is_last w n) refl
-exec_goes h x (Down n) w inv may = down_goes h n w (is_last w n) refl
-exec_goes h x (Free n) w inv may = freed w n
-exec_goes h x (Forget n) w inv may = lowered h n w (λ is. absurd (
+exec_goes version h x (Up n) w inv may = up_goes h n w (has_place w n)
+exec_goes version h x (WalkDown n) w inv may = walk_down_goes h n w (is_last w n) refl
+exec_goes version h x (Down n) w inv may = down_goes h n w (is_last w n) refl
+exec_goes version h x (Free n) w inv may = freed w n
+exec_goes version h x (Forget n) w inv may = lowered h n w (λ is. absurd (
     let a : is_dead (w.disk n) ≡ false = ap (λ (o : Option Node). is_dead o) may.1.2.1 in
     let no : true ≡ false = sym is ∙ a in
     cc))
-exec_goes h x (Claim inode_type) w inv may = claim_goes h inode_type w x
-exec_goes h x (Store n count) w inv may = with_other w n (with_count count) (locked_refs w h n inv may.1.0.0)
-exec_goes h x (Fill n d) w inv may = fill_goes n d w x (locked_refs w h n inv may.1.0.0)
-exec_goes h x (Enter d e n) w inv may = enter_goes d e n w x (is_full_directory (w.disk d)) (locked_refs w h d inv may.1.0.0)
-exec_goes h x (Clear d e) w inv may = with_other w d (without_entry e) (locked_refs w h d inv may.1.0.0)
-exec_goes h x (Empty n) w inv may = with_other w n with_no_bytes (locked_refs w h n inv may.1.0.0)
-exec_goes h x Slot w inv may = slot_goes h w (first_from file_count 0 (is_empty_slot w))
-exec_goes h x (Install f inode_type) w inv may = install_goes h w f inode_type (w.desks h).hand (has_room (w.desks h).fds)
-exec_goes h x (StatFile fd) w inv may = stat_goes h w (entry_of w h fd)
-exec_goes h x (LockFile fd) w inv may = file_goes h w (entry_of w h fd) (read_refused (entry_of w h fd))
-exec_goes h x (ReadFile fd n offset count) w inv may = read_goes w n count (slot_at w h fd) (entry_of w h fd)
-exec_goes h x (CheckFile fd) w inv may = λ dead. dead
-exec_goes h x (JoinFile fd) w inv may = join_goes h w (entry_of w h fd) (write_refused (entry_of w h fd))
-exec_goes h x (LockOpen fd n) w inv may = lock_goes h n (n, offset_of (entry_of w h fd)) w (w.lock n)
-exec_goes h x (WriteFile fd n offset bytes) w inv may =
-    write_goes w (slot_at w h fd) n bytes x (entry_of w h fd) (locked_refs w h n inv may.1.0.0)
-exec_goes h x (Double fd) w inv may = double_goes h w (slot_at w h fd) (entry_of w h fd)
-exec_goes h x (Shut fd) w inv may = close_goes h fd w (slot_at w h fd) (entry_of w h fd)
-exec_goes h x (SetDirectory n) w inv may = unlocked_stays n w (w.alone n)
-exec_goes h x (Lend child from) w inv may = lend_goes h child w (next_used from (w.desks h).fds)
-exec_goes h x (LendDirectory child) w inv may = raised w (moved_in w h child) (w.desks h).directory refl refl
-exec_goes h x (Release child) w inv may = λ dead. dead
-exec_goes h x Join w inv may = λ dead. dead
-exec_goes h x Leave w inv may = λ dead. dead
-exec_goes h x Say w inv may = λ dead. dead
+exec_goes version h x (Claim inode_type) w inv may = claim_goes h inode_type w x
+exec_goes version h x (Store n count) w inv may = with_other w n (with_count count) (locked_refs w h n inv may.1.0.0)
+exec_goes version h x (Fill n d) w inv may = fill_goes n d w x (locked_refs w h n inv may.1.0.0)
+exec_goes version h x (Enter d e n) w inv may = enter_goes d e n w x (is_full_directory version (w.disk d)) (locked_refs w h d inv may.1.0.0)
+exec_goes version h x (Clear d e) w inv may = with_other w d (without_entry e) (locked_refs w h d inv may.1.0.0)
+exec_goes version h x (Empty n) w inv may = with_other w n with_no_bytes (locked_refs w h n inv may.1.0.0)
+exec_goes version h x Slot w inv may = slot_goes h w (first_from file_count 0 (is_empty_slot w))
+exec_goes version h x (Install f inode_type) w inv may = install_goes h w f inode_type (w.desks h).hand (has_room (w.desks h).fds)
+exec_goes version h x (StatFile fd) w inv may = stat_goes version h w (entry_of w h fd)
+exec_goes version h x (LockFile fd) w inv may = file_goes h w (entry_of w h fd) (read_refused (entry_of w h fd))
+exec_goes version h x (ReadFile fd n offset count) w inv may = read_goes version w n count (slot_at w h fd) (entry_of w h fd)
+exec_goes version h x (CheckFile fd) w inv may = λ dead. dead
+exec_goes version h x (JoinFile fd) w inv may = join_goes h w (entry_of w h fd) (write_refused (entry_of w h fd))
+exec_goes version h x (LockOpen fd n) w inv may = lock_goes h n (n, offset_of (entry_of w h fd)) w (w.lock n)
+exec_goes version h x (WriteFile fd n offset bytes) w inv may =
+    write_goes version w (slot_at w h fd) n bytes x (entry_of w h fd) (locked_refs w h n inv may.1.0.0)
+exec_goes version h x (Double fd) w inv may = double_goes h w (slot_at w h fd) (entry_of w h fd)
+exec_goes version h x (Shut fd) w inv may = close_goes h fd w (slot_at w h fd) (entry_of w h fd)
+exec_goes version h x (SetDirectory n) w inv may = unlocked_stays n w (w.alone n)
+exec_goes version h x (Lend child from) w inv may = lend_goes h child w (next_used from (w.desks h).fds)
+exec_goes version h x (LendDirectory child) w inv may = raised w (moved_in w h child) (w.desks h).directory refl refl
+exec_goes version h x (Release child) w inv may = λ dead. dead
+exec_goes version h x Join w inv may = λ dead. dead
+exec_goes version h x Leave w inv may = λ dead. dead
+exec_goes version h x Say w inv may = λ dead. dead
 
 -- ---- with their marks
 
-made_goes : {A : Type 0} (h : ℕ) (m : A → Option Mark) (w : World) (d : Result A World) → Goes w d → Goes w (with_mark h m d)
-made_goes h m w Waits goes = tt
-made_goes h m w (Ran a u) goes = λ dead. stays u (marked h (m a) u) (marked_same h (m a) u) (goes dead)
-made_goes h m w (Stops u) goes = tt
+made_goes : (version : Version) {A : Type 0} (h : ℕ) (m : A → Option Mark) (w : World) (d : Result A World) → Goes w d → Goes w (with_mark version h m d)
+made_goes version h m w Waits goes = tt
+made_goes version h m w (Ran a u) goes = λ dead. stays u (marked version h (m a) u) (marked_same version h (m a) u) (goes dead)
+made_goes version h m w (Stops u) goes = tt
 
 -- so it is after any operation
-pub dead_stay : (h : ℕ) (x : Outside) (op : Op) (m : Answer op → Option Mark) (w u : World) (a : Answer op) → Inv w → May h op w
-    → go h x op m w ≡ Ran a u → DeadAreReferredTo w → DeadAreReferredTo u
-dead_stay h x op m w u a inv may ran dead =
-    subst (λ (d : Result (Answer op) World). Goes w d) ran (made_goes h m w (exec h x op w) (exec_goes h x op w inv may)) dead
+pub dead_stay : (version : Version) (h : ℕ) (x : Outside) (op : Op) (m : Answer op → Option Mark) (w u : World) (a : Answer op) → Inv w → May version h op w
+    → go version h x op m w ≡ Ran a u → DeadAreReferredTo w → DeadAreReferredTo u
+dead_stay version h x op m w u a inv may ran dead =
+    subst (λ (d : Result (Answer op) World). Goes w d) ran (made_goes version h m w (exec version h x op w) (exec_goes version h x op w inv may)) dead

@@ -1,5 +1,5 @@
 -- A start changes nothing but what it reserves.
-use Rattle.run_laws.proofs.Vocabulary.{◌≡◌, ◌≢◌, ◌⊎◌, inl, inr, ℕ, ◌+◌, ◌<◌, ◌≤◌, Bool, true, false, nat_lt, if◌then◌else◌, Option, Some, None, refl, sym, ◌∙◌, ap, arith, nat_tests, Call, Tree, put, descriptor_count, put_is, put_other, Began, Begins, serving, Idle, Refusal, at_rest, begin_call, serving_world, Desk, begun_same, inherit_begins, start_is, serves, served_calls, on_the_way, unreserved, unreserved_desk}
+use Rattle.run_laws.proofs.Vocabulary.{◌≡◌, ◌≢◌, ◌⊎◌, inl, inr, ℕ, ◌+◌, ◌<◌, ◌≤◌, Bool, true, false, nat_lt, if◌then◌else◌, Option, Some, None, refl, sym, ◌∙◌, ap, arith, nat_tests, Call, Tree, put, descriptor_count, put_is, put_other, Began, Begins, serving, Idle, Refusal, at_rest, begin_call, serving_world, Desk, begun_same, inherit_begins, start_is, serves, served_calls, on_the_way, unreserved, unreserved_desk, Version}
 use Rattle.plain_tree.specs.declared.call.Call.TheVariants as calls
 use Rattle.inode_machine.specs.World.{World}
 
@@ -76,5 +76,6 @@ begins_same h (calls.Inherit child) busy w u idle e =
     let i = inherit_begins h child busy w u e in
     ap unreserved (sym i.is) ∙ serving_same h child w i.apart idle
 
-pub start_same : (h : ℕ) (call : Call) (busy : ℕ → Bool) (w u : World) → Idle h w → served_calls.start h call busy w ≡ Begins u → unreserved u ≡ unreserved w
-start_same h call busy w u idle e = begins_same h call busy w u idle (start_is serves h call busy w u e).begins
+pub start_same : (version : Version) (h : ℕ) (call : Call) (busy : ℕ → Bool) (w u : World) → Idle h w → (served_calls version).start h call busy w ≡ Begins u
+    → unreserved u ≡ unreserved w
+start_same version h call busy w u idle e = begins_same h call busy w u idle (start_is serves h call busy w u e).begins

@@ -1,5 +1,5 @@
 -- A run found room at each step exactly if none of its operations found none.
-use Rattle.run_laws.proofs.Vocabulary.{◌≡◌, inl, inr, ℕ, Bool, true, false, ◌&&◌, not, nat_eq, if◌then◌else◌, Option, Some, None, List, [], ◌∷◌, ◌++◌, refl, sym, ◌∙◌, ap, subst, eq-eqb, Super, sizes_of, Call, put, and_true, Theory, Began, Refuses, Begins, EventOf, FinishedCall, PlacedStep, Run, Start, Started, State, begun, busy_in, fresh, makes, next, run, start_run, Chain, In, IsOfCall, history, steps_of, Both, ran_to, PartOf as P, began_to, Ret, Do, ExecResult, Waits, Ran, Stops, EventReport, IsTraced, happened, begun_both, traced, Outside, exec, marked, with_mark, program, machine, Refusal, Mark, Fills, Frees, Makes, Mends, Orphans, Spoils, first_world, first, World, shared_of, begins, block_calls, child_of, served_calls, serves, served_is, begun_here, WorldOf, IsRunFrom, RefinesWholeInodes, operations_made, operations_of, RoomIsToldByAnswers, finds_no_room, says_no_room, IsRunOf, IsStep, Operation, lowered_inode_calls, unreserved}
+use Rattle.run_laws.proofs.Vocabulary.{◌≡◌, inl, inr, ℕ, Bool, true, false, ◌&&◌, not, nat_eq, if◌then◌else◌, Option, Some, None, List, [], ◌∷◌, ◌++◌, refl, sym, ◌∙◌, ap, subst, eq-eqb, Super, sizes_of, Call, put, and_true, Theory, Began, Refuses, Begins, EventOf, FinishedCall, PlacedStep, Run, Start, Started, State, begun, busy_in, fresh, makes, next, run, start_run, Chain, In, IsOfCall, history, steps_of, Both, ran_to, PartOf as P, began_to, Ret, Do, ExecResult, Waits, Ran, Stops, EventReport, IsTraced, happened, begun_both, traced, Outside, exec, marked, with_mark, program, machine, Refusal, Mark, Fills, Frees, Makes, Mends, Orphans, Spoils, first_world, first, World, shared_of, begins, block_calls, child_of, served_calls, serves, served_is, begun_here, WorldOf, IsRunFrom, RefinesWholeInodes, operations_made, operations_of, RoomIsToldByAnswers, finds_no_room, says_no_room, IsRunOf, IsStep, Operation, lowered_inode_calls, unreserved, Version}
 use Rattle.inode_machine.specs.World as above
 use Rattle.run_laws.proofs.CallFits.{call_fits, most_written}
 use Rattle.run_laws.proofs.Fits.{AllFitUpTo}
@@ -9,36 +9,37 @@ use Rattle.run_laws.proofs.Worlds.{worlds_refine}
 
 -- ---- one step
 
-pub marked_clean : (h : ℕ) (k : Option Mark) (w : above.World) → (marked h k w).clean ≡ (not (spoils k) && w.clean)
-marked_clean h None w = refl
-marked_clean h (Some (Makes v)) w = refl
-marked_clean h (Some (Frees n)) w = refl
-marked_clean h (Some (Orphans n)) w = refl
-marked_clean h (Some Fills) w = refl
-marked_clean h (Some Mends) w = refl
-marked_clean h (Some (Spoils s)) w = refl
+pub marked_clean : (version : Version) (h : ℕ) (k : Option Mark) (w : above.World) → (marked version h k w).clean ≡ (not (spoils k) && w.clean)
+marked_clean version h None w = refl
+marked_clean version h (Some (Makes v)) w = refl
+marked_clean version h (Some (Frees n)) w = refl
+marked_clean version h (Some (Orphans n)) w = refl
+marked_clean version h (Some Fills) w = refl
+marked_clean version h (Some Mends) w = refl
+marked_clean version h (Some (Spoils s)) w = refl
 
-pub after_clean : {A : Type 0} (h : ℕ) (k : Option Mark) (before after : above.World) (a : A) (d : ExecResult A above.World) → Goes h before d → with_mark h (λ _. k) d ≡ Ran a after
+pub after_clean : (version : Version) {A : Type 0} (h : ℕ) (k : Option Mark) (before after : above.World) (a : A) (d : ExecResult A above.World) → Goes h before d → with_mark version h (λ _. k) d ≡ Ran a after
     → after.clean ≡ (not (spoils k) && before.clean)
-after_clean h k before after a Waits g e = cc
-after_clean h k before after a (Stops u) g e = absurd g
-after_clean h k before after a (Ran b w) g e =
-    ap (λ (z : above.World). z.clean) (sym (ap (ran_to before) e)) ∙ marked_clean h k w ∙ (λ i. not (spoils k) && (g i).clean)
+after_clean version h k before after a Waits g e = cc
+after_clean version h k before after a (Stops u) g e = absurd g
+after_clean version h k before after a (Ran b w) g e =
+    ap (λ (z : above.World). z.clean) (sym (ap (ran_to before) e)) ∙ marked_clean version h k w ∙ (λ i. not (spoils k) && (g i).clean)
 
-step_clean : (t u : above.World) (h : ℕ) (e : Operation) → IsStep t h e u → spoils e.mark ≡ says_no_room e.op e.answer → u.clean ≡ (not (finds_no_room e) && t.clean)
-step_clean t u h e s same =
+step_clean : (version : Version) (t u : above.World) (h : ℕ) (e : Operation) → IsStep version t h e u → spoils e.mark ≡ says_no_room e.op e.answer
+    → u.clean ≡ (not (finds_no_room e) && t.clean)
+step_clean version t u h e s same =
     ap (λ (z : above.World). z.clean) (sym s.to)
-    ∙ after_clean h e.mark s.before s.after e.answer (exec h s.outside e.op s.before) (goes_on h s.outside e.op s.before) s.goes
+    ∙ after_clean version h e.mark s.before s.after e.answer (exec version h s.outside e.op s.before) (goes_on version h s.outside e.op s.before) s.goes
     ∙ (λ i. not (same i) && (s.from i).clean)
 
 -- ---- marks say what answers do
 
-in_run : (most : ℕ) {A : Type 0} (p : P machine A) (es : List Operation) (r : A) (x : Operation) → AllFitUpTo most p → IsRunOf p es r → In x es → spoils x.mark ≡ says_no_room x.op x.answer
-in_run most (Ret a) [] r x f g i = absurd i
-in_run most (Ret a) (e ∷ es) r x f g i = absurd g
-in_run most (Do op m k) [] r x f g i = absurd i
-in_run most (Do op m k) (e ∷ es) r x f g (inl q) = subst (λ (z : Operation). spoils z.mark ≡ says_no_room z.op z.answer) (sym (q ∙ g.2)) (f.1 g.0)
-in_run most (Do op m k) (e ∷ es) r x f g (inr i) = in_run most (k g.0) es r x (f.2 g.0) g.3 i
+in_run : (version : Version) (most : ℕ) {A : Type 0} (p : P (machine version) A) (es : List Operation) (r : A) (x : Operation) → AllFitUpTo version most p → IsRunOf p es r → In x es → spoils x.mark ≡ says_no_room x.op x.answer
+in_run version most (Ret a) [] r x f g i = absurd i
+in_run version most (Ret a) (e ∷ es) r x f g i = absurd g
+in_run version most (Do op m k) [] r x f g i = absurd i
+in_run version most (Do op m k) (e ∷ es) r x f g (inl q) = subst (λ (z : Operation). spoils z.mark ≡ says_no_room z.op z.answer) (sym (q ∙ g.2)) (f.1 g.0)
+in_run version most (Do op m k) (e ∷ es) r x f g (inr i) = in_run version most (k g.0) es r x (f.2 g.0) g.3 i
 
 in_more : {A : Type 0} (x : A) (es rest : List A) → In x es → In x (es ++ rest)
 in_more x [] rest i = absurd i
@@ -83,7 +84,7 @@ module _ (sizes : Super) where
   chain_clean [] t u c tell = ap (λ (z : above.World). z.clean) c
   chain_clean (e ∷ es) t u c tell =
       chain_clean es c.0 u c.2 (λ x i. tell x (inr i))
-      ∙ ap (λ (b : Bool). none_finds es && b) (step_clean t c.0 e.hart e.step c.1 (tell e (inl refl)))
+      ∙ ap (λ (b : Bool). none_finds es && b) (step_clean sizes.version t c.0 e.hart e.step c.1 (tell e (inl refl)))
       ∙ moved_in (none_finds es) (not (finds_no_room e.step)) t.clean
 
   each_finds : (es : List (PlacedStep L)) → none_finds es ≡ true → (e : PlacedStep L) → In e es → finds_no_room e.step ≡ false
@@ -101,7 +102,8 @@ module _ (sizes : Super) where
   begun_served h call s (Refuses why) is e = cc
   begun_served h call s (Begins u) is e =
       let t : World = record (s.world.real) { children = put s.world.real.children h (child_of call) } in
-      let b = begun_both (began_to s.world.seen (served_calls.start h call (busy_in L s) s.world.seen)) (begins sizes h call (busy_in L s) s.world.real) u is in
+      let b = begun_both (began_to s.world.seen ((served_calls sizes.version).start h call (busy_in L s) s.world.seen))
+      (begins sizes h call (busy_in L s) s.world.real) u is in
       (begun_here h call (busy_in L s) (shared_of s.world.real) t u.real b.0).serves_it
 
   start_served : (h : ℕ) (call : Call) (s : State L) (r : Option (Run L)) → (start_run L h call s r).came ≡ Started → serves call ≡ true
@@ -122,20 +124,21 @@ module _ (sizes : Super) where
     was : IsTraced L (λ x. In x (happened L events (fresh L w))) (run L events (fresh L w))
     was = traced L w events
 
-    finished_fits : (f : FinishedCall L) → In f s.finished → AllFitUpTo (most_written f.call) (program f.call)
-    finished_fits f i = call_fits f.call (served_is f.call (happened_served events (fresh L w) _ f.start f.hart f.call (was.started f i) refl))
+    finished_fits : (f : FinishedCall L) → In f s.finished → AllFitUpTo sizes.version (most_written f.call) (program sizes.version f.call)
+    finished_fits f i = call_fits sizes.version f.call (served_is f.call (happened_served events (fresh L w) _ f.start f.hart f.call (was.started f i) refl))
 
-    running_fits : (h : ℕ) (r : Run L) → s.running h ≡ Some r → AllFitUpTo (most_written r.call) (program r.call)
-    running_fits h r i = call_fits r.call (served_is r.call (happened_served events (fresh L w) _ r.start h r.call (was.under_way h r i) refl))
+    running_fits : (h : ℕ) (r : Run L) → s.running h ≡ Some r → AllFitUpTo sizes.version (most_written r.call) (program sizes.version r.call)
+    running_fits h r i = call_fits sizes.version r.call (served_is r.call (happened_served events (fresh L w) _ r.start h r.call (was.under_way h r i) refl))
 
     tells : (e : PlacedStep L) → In e (operations_made sizes s) → spoils e.step.mark ≡ says_no_room e.step.op e.step.answer
     tells e i = at (runs.owned e i)
       where
         at : IsOfCall L s e → spoils e.step.mark ≡ says_no_room e.step.op e.step.answer
-        at (inl x) = in_run (most_written (x.0).call) (program (x.0).call) (operations_of sizes s (x.0).start) (x.0).reply e.step (finished_fits x.0 x.1) (runs.whole x.0 x.1).runs (in_steps (x.0).start (operations_made sizes s) e i (sym x.3))
+        at (inl x) = in_run sizes.version (most_written (x.0).call) (program sizes.version (x.0).call) (operations_of sizes s (x.0).start) (x.0).reply e.step (finished_fits x.0 x.1) (runs.whole x.0 x.1).runs (in_steps (x.0).start (operations_made sizes s) e i (sym x.3))
         at (inr x) =
             let b = runs.begun e.hart x.0 x.1 in
-            in_run (most_written (x.0).call) (program (x.0).call) (operations_of sizes s (x.0).start ++ b.0) b.1 e.step (running_fits e.hart x.0 x.1) b.2.runs
+            in_run sizes.version (most_written (x.0).call) (program sizes.version (x.0).call) (operations_of sizes s (x.0).start ++ b.0) b.1 e.step
+            (running_fits e.hart x.0 x.1) b.2.runs
             (in_more e.step (operations_of sizes s (x.0).start) b.0 (in_steps (x.0).start (operations_made sizes s) e i (sym x.2)))
 
     run_clean : s.world.seen.clean ≡ (none_finds (operations_made sizes s) && base.clean)

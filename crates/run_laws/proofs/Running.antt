@@ -1,7 +1,7 @@
 -- No operation on whole inodes stops the world, and it leaves alone what its mark changes. And each has some answer.
-use Rattle.run_laws.proofs.Vocabulary.{◌≢◌, ◌⊎◌, inl, inr, ◌+◌, ◌-◌, length, take, ◌≡◌, ℕ, ◌==◌, Bool, true, false, nat_lt, if◌then◌else◌, List, [], Option, Some, None, refl, sym, ◌∙◌, ap, Cause, OpenFile, has_room, node_or, write_kind, Name, Tree, put, put_is, Walk, ExecResult, Waits, Ran, Stops, changed_record, claim_if, claimed, close_at, close_if, counted_down, counted_up, double_at, double_if, down_if, enter_if, entry_of, exec, file_count, fill_if, first_from, has_place, install_if, is_empty_slot, is_full_directory, is_last, join_at, lend_if, lend_last, lock_at, lock_if, locked, moved_in, next_used, offset_of, place_count, read_at, read_refused, referenced, slot_at, slot_if, start_if, start_number, stat_at, unlocked, up_if, walk_down_if, with_bytes, with_found, with_lent, with_offset, with_refs, write_at, write_if, write_refused, wrote_in, InodeType, face_of, face_or, seen_in, go, with_mark, Answer, ClaimResult, Entry, Mine, InPlace, Joined, LocksIt, Mark, Moved, New, NoPlace, Picks, Room, RoomFor, Whole, Take, UnlockInode, UpStart, Up, WalkDown, Down, Free, Forget, Claim, Store, Fill, Enter, Clear, Empty, Slot, Install, StatFile, LockFile, ReadFile, CheckFile, JoinFile, LockOpen, WriteFile, Double, Shut, SetDirectory, Lend, LendDirectory, Release, Join, Leave, Say}
+use Rattle.run_laws.proofs.Vocabulary.{◌≢◌, ◌⊎◌, inl, inr, ◌+◌, ◌-◌, length, take, ◌≡◌, ℕ, ◌==◌, Bool, true, false, nat_lt, if◌then◌else◌, List, [], Option, Some, None, refl, sym, ◌∙◌, ap, Cause, OpenFile, has_room, node_or, write_kind, Name, Tree, put, put_is, Walk, ExecResult, Waits, Ran, Stops, changed_record, claim_if, claimed, close_at, close_if, counted_down, counted_up, double_at, double_if, down_if, enter_if, entry_of, exec, file_count, fill_if, first_from, has_place, install_if, is_empty_slot, is_full_directory, is_last, join_at, lend_if, lend_last, lock_at, lock_if, locked, moved_in, next_used, offset_of, place_count, read_at, read_refused, referenced, slot_at, slot_if, start_if, start_number, stat_at, unlocked, up_if, walk_down_if, with_bytes, with_found, with_lent, with_offset, with_refs, write_at, write_if, write_refused, wrote_in, InodeType, face_of, face_or, seen_in, go, with_mark, Answer, ClaimResult, Entry, Mine, InPlace, Joined, LocksIt, Mark, Moved, New, NoPlace, Picks, Room, RoomFor, Whole, Take, UnlockInode, UpStart, Up, WalkDown, Down, Free, Forget, Claim, Store, Fill, Enter, Clear, Empty, Slot, Install, StatFile, LockFile, ReadFile, CheckFile, JoinFile, LockOpen, WriteFile, Double, Shut, SetDirectory, Lend, LendDirectory, Release, Join, Leave, Say, Version}
 use Rattle.inode_machine.specs.Exec.{enter_in, write_in}
-use Rattle.inode_machine.specs.VersionOne.{part_of}
+use Rattle.inode_machine.specs.Exec.{part_of}
 use Rattle.inode_machine.specs.World.{NoInode, Op, Outside, World}
 
 pub some_answer : (op : Op) → Answer op
@@ -167,18 +167,20 @@ install_on h w f inode_type None b = refl
 install_on h w f inode_type (Some s) false = refl
 install_on h w f inode_type (Some s) true = refs_kept h w w.harts h f.number ((w.harts h).refs f.number - 1)
 
-stat_on : (h : ℕ) (w : World) (o : Option Entry) → Goes h w (stat_at h w o)
-stat_on h w None = refl
-stat_on h w (Some e) = lock_on h e.file.number (Some (e.file.number, face_or (face_of (w.disk e.file.number)))) w (locked h e.file.number w) refl (w.lock e.file.number)
+stat_on : (version : Version) (h : ℕ) (w : World) (o : Option Entry) → Goes h w (stat_at version h w o)
+stat_on version h w None = refl
+stat_on version h w (Some e) =
+    lock_on h e.file.number (Some (e.file.number, face_or (face_of version (w.disk e.file.number)))) w (locked h e.file.number w) refl (w.lock e.file.number)
 
 file_on : (h : ℕ) (w : World) (o : Option Entry) (c : Option Cause) → Goes h w (lock_at h w o c)
 file_on h w o (Some c) = refl
 file_on h w None None = refl
 file_on h w (Some e) None = lock_on h e.file.number (LocksIt e.file.number e.file.offset) w (locked h e.file.number w) refl (w.lock e.file.number)
 
-read_on : (h : ℕ) (w : World) (n count : ℕ) (s : Option ℕ) (o : Option Entry) → Goes h w (read_at w n count s o)
-read_on h w n count s None = unlocked_kept h n w (w.alone n)
-read_on h w n count s (Some e) = offset_kept h (unlocked n w (w.alone n)) s e (length (part_of (w.disk n) e.file.offset count)) ∙ unlocked_kept h n w (w.alone n)
+read_on : (version : Version) (h : ℕ) (w : World) (n count : ℕ) (s : Option ℕ) (o : Option Entry) → Goes h w (read_at version w n count s o)
+read_on version h w n count s None = unlocked_kept h n w (w.alone n)
+read_on version h w n count s (Some e) =
+    offset_kept h (unlocked n w (w.alone n)) s e (length (part_of version (w.disk n) e.file.offset count)) ∙ unlocked_kept h n w (w.alone n)
 
 join_on : (h : ℕ) (w : World) (o : Option Entry) (c : Option Cause) → Goes h w (join_at h w o c)
 join_on h w o (Some c) = refl
@@ -194,9 +196,9 @@ write_if_on : (h : ℕ) (w : World) (s : Option ℕ) (e : Entry) (n : ℕ) (b : 
 write_if_on h w s e n b x (Some c) = unlocked_kept h n w (w.alone n)
 write_if_on h w s e n b x None = write_in_on h w s e n b x
 
-write_on : (h : ℕ) (w : World) (s : Option ℕ) (n : ℕ) (b : List ℕ) (x : Outside) (o : Option Entry) → Goes h w (write_at w s n b x o)
-write_on h w s n b x None = unlocked_kept h n w (w.alone n)
-write_on h w s n b x (Some e) = write_if_on h w s e n b x (write_kind (node_or (w.disk n)).kind e.file.offset b)
+write_on : (version : Version) (h : ℕ) (w : World) (s : Option ℕ) (n : ℕ) (b : List ℕ) (x : Outside) (o : Option Entry) → Goes h w (write_at version w s n b x o)
+write_on version h w s n b x None = unlocked_kept h n w (w.alone n)
+write_on version h w s n b x (Some e) = write_if_on h w s e n b x (write_kind version (node_or (w.disk n)).kind e.file.offset b)
 
 double_if_on : (h : ℕ) (w : World) (s : ℕ) (e : Entry) (b : Bool) → Goes h w (double_if h w s e b)
 double_if_on h w s e true = refl
@@ -220,44 +222,44 @@ lend_on : (h : ℕ) (w : World) (child : ℕ) (o : Option ℕ) → Goes h w (len
 lend_on h w child None = moved_kept h child w
 lend_on h w child (Some i) = lent_kept h child (with_lent w h i) (next_used (i + 1) (w.desks h).fds)
 
-pub goes_on : (h : ℕ) (x : Outside) (op : Op) (w : World) → Goes h w (exec h x op w)
-goes_on h x (Take n looking) w = lock_on h n (seen_in n looking (w.disk n)) w (locked h n w) refl (w.lock n)
-goes_on h x (UnlockInode n) w = unlocked_kept h n w (w.alone n)
-goes_on h x (UpStart absolute) w = start_on h (start_number (w.desks h) absolute) w (has_place w (start_number (w.desks h) absolute))
-goes_on h x (Up n) w = up_on h n w (has_place w n)
-goes_on h x (WalkDown n) w = walk_down_on h n w (is_last w n)
-goes_on h x (Down n) w = down_on h n w (is_last w n)
-goes_on h x (Free n) w = refl
-goes_on h x (Forget n) w = down_kept h n w
-goes_on h x (Claim inode_type) w = claim_on h inode_type w x
-goes_on h x (Store n count) w = refl
-goes_on h x (Fill n d) w = fill_on h n d w x
-goes_on h x (Enter d e n) w = enter_on h d e n w x (is_full_directory (w.disk d))
-goes_on h x (Clear d e) w = refl
-goes_on h x (Empty n) w = refl
-goes_on h x Slot w = slot_on h w (first_from file_count 0 (is_empty_slot w))
-goes_on h x (Install f inode_type) w = install_on h w f inode_type (w.desks h).hand (has_room (w.desks h).fds)
-goes_on h x (StatFile fd) w = stat_on h w (entry_of w h fd)
-goes_on h x (LockFile fd) w = file_on h w (entry_of w h fd) (read_refused (entry_of w h fd))
-goes_on h x (ReadFile fd n offset count) w = read_on h w n count (slot_at w h fd) (entry_of w h fd)
-goes_on h x (CheckFile fd) w = refl
-goes_on h x (JoinFile fd) w = join_on h w (entry_of w h fd) (write_refused (entry_of w h fd))
-goes_on h x (LockOpen fd n) w = lock_on h n (n, offset_of (entry_of w h fd)) w (locked h n w) refl (w.lock n)
-goes_on h x (WriteFile fd n offset bytes) w = write_on h w (slot_at w h fd) n bytes x (entry_of w h fd)
-goes_on h x (Double fd) w = double_on h w (slot_at w h fd) (entry_of w h fd)
-goes_on h x (Shut fd) w = close_on h w fd (slot_at w h fd) (entry_of w h fd)
-goes_on h x (SetDirectory n) w = unlocked_kept h n w (w.alone n)
-goes_on h x (Lend child from) w = lend_on h w child (next_used from (w.desks h).fds)
-goes_on h x (LendDirectory child) w = moved_kept h child w
-goes_on h x (Release child) w = refl
-goes_on h x Join w = refl
-goes_on h x Leave w = refl
-goes_on h x Say w = refl
+pub goes_on : (version : Version) (h : ℕ) (x : Outside) (op : Op) (w : World) → Goes h w (exec version h x op w)
+goes_on version h x (Take n looking) w = lock_on h n (seen_in version n looking (w.disk n)) w (locked h n w) refl (w.lock n)
+goes_on version h x (UnlockInode n) w = unlocked_kept h n w (w.alone n)
+goes_on version h x (UpStart absolute) w = start_on h (start_number (w.desks h) absolute) w (has_place w (start_number (w.desks h) absolute))
+goes_on version h x (Up n) w = up_on h n w (has_place w n)
+goes_on version h x (WalkDown n) w = walk_down_on h n w (is_last w n)
+goes_on version h x (Down n) w = down_on h n w (is_last w n)
+goes_on version h x (Free n) w = refl
+goes_on version h x (Forget n) w = down_kept h n w
+goes_on version h x (Claim inode_type) w = claim_on h inode_type w x
+goes_on version h x (Store n count) w = refl
+goes_on version h x (Fill n d) w = fill_on h n d w x
+goes_on version h x (Enter d e n) w = enter_on h d e n w x (is_full_directory version (w.disk d))
+goes_on version h x (Clear d e) w = refl
+goes_on version h x (Empty n) w = refl
+goes_on version h x Slot w = slot_on h w (first_from file_count 0 (is_empty_slot w))
+goes_on version h x (Install f inode_type) w = install_on h w f inode_type (w.desks h).hand (has_room (w.desks h).fds)
+goes_on version h x (StatFile fd) w = stat_on version h w (entry_of w h fd)
+goes_on version h x (LockFile fd) w = file_on h w (entry_of w h fd) (read_refused (entry_of w h fd))
+goes_on version h x (ReadFile fd n offset count) w = read_on version h w n count (slot_at w h fd) (entry_of w h fd)
+goes_on version h x (CheckFile fd) w = refl
+goes_on version h x (JoinFile fd) w = join_on h w (entry_of w h fd) (write_refused (entry_of w h fd))
+goes_on version h x (LockOpen fd n) w = lock_on h n (n, offset_of (entry_of w h fd)) w (locked h n w) refl (w.lock n)
+goes_on version h x (WriteFile fd n offset bytes) w = write_on version h w (slot_at w h fd) n bytes x (entry_of w h fd)
+goes_on version h x (Double fd) w = double_on h w (slot_at w h fd) (entry_of w h fd)
+goes_on version h x (Shut fd) w = close_on h w fd (slot_at w h fd) (entry_of w h fd)
+goes_on version h x (SetDirectory n) w = unlocked_kept h n w (w.alone n)
+goes_on version h x (Lend child from) w = lend_on h w child (next_used from (w.desks h).fds)
+goes_on version h x (LendDirectory child) w = moved_kept h child w
+goes_on version h x (Release child) w = refl
+goes_on version h x Join w = refl
+goes_on version h x Leave w = refl
+goes_on version h x Say w = refl
 
-pub never_stops : (h : ℕ) (x : Outside) (op : Op) (m : Answer op → Option Mark) (w u : World) → go h x op m w ≡ Stops u → ⊥
-never_stops h x op m w u is = at (exec h x op w) (goes_on h x op w) is
+pub never_stops : (version : Version) (h : ℕ) (x : Outside) (op : Op) (m : Answer op → Option Mark) (w u : World) → go version h x op m w ≡ Stops u → ⊥
+never_stops version h x op m w u is = at (exec version h x op w) (goes_on version h x op w) is
   where
-    at : (d : ExecResult (Answer op) World) → Goes h w d → with_mark h m d ≡ Stops u → ⊥
+    at : (d : ExecResult (Answer op) World) → Goes h w d → with_mark version h m d ≡ Stops u → ⊥
     at Waits g e = cc
     at (Ran a v) g e = cc
     at (Stops v) g e = g

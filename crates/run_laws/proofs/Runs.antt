@@ -1,5 +1,5 @@
 -- A run of a mounted world takes few steps.
-use Rattle.run_laws.proofs.Vocabulary.{◌≡◌, ℕ, nat_eq, if◌then◌else◌, List, [], ◌∷◌, refl, sym, ◌∙◌, ap, subst, Super, sizes_of, Reply, Call, Theory, State, EventOf, Start, Step, OutcomeOf, Started, WasRefused as Refused, WasIdle, DidWait, DidRun, DidEnd, DidStop, WasStopped, EventOutcome, hart_of, AllHonest, asked, all_asked, fresh, next, outcomes, Code, PlainMade, by_kind, all_by_kind, erase, plain_outcomes, erase-makes, erase-outcomes, honest_event, Outside, first, block_calls, block_code, is_code, Event, HartsOf, Rests, events_of, outcomes_of, AllAnswer, IsHistory, WorldOf, mountable, rests_erased, AreFew, RunsTakeFewSteps, with_outcome, steps_ran, OfBegun, OfEachCall}
+use Rattle.run_laws.proofs.Vocabulary.{◌≡◌, ℕ, nat_eq, if◌then◌else◌, List, [], ◌∷◌, refl, sym, ◌∙◌, ap, subst, Super, sizes_of, Reply, Call, Theory, State, EventOf, Start, Step, OutcomeOf, Started, WasRefused as Refused, WasIdle, DidWait, DidRun, DidEnd, DidStop, WasStopped, EventOutcome, hart_of, AllHonest, asked, all_asked, fresh, next, outcomes, Code, PlainMade, by_kind, all_by_kind, erase, plain_outcomes, erase-makes, erase-outcomes, honest_event, Outside, first, block_calls, block_code, is_code, Event, HartsOf, Rests, events_of, outcomes_of, AllAnswer, IsHistory, WorldOf, mountable, rests_erased, AreFew, RunsTakeFewSteps, with_outcome, steps_ran, OfBegun, OfEachCall, version_in}
 use Rattle.hart_core.specs.declared.events.Came.{Came}
 use Rattle.run_laws.proofs.Bounds.{calls_few}
 
@@ -73,10 +73,10 @@ module _ {D : Type 0} (contents : D → List (List ℕ)) (failures : D → ℕ) 
   abbrev start : State (block_calls (sizes_of disk))
   start = fresh (block_calls (sizes_of disk)) (first disk count)
 
-  history_few : (events : List Event) (came : List Came) (new : HartsOf D) (history : List (EventOf Call Outside)) → IsHistory contents failures (sizes_of disk) w events came new history → OfEachCall AreFew (events_of events) (outcomes_of came)
+  history_few : (events : List Event) (came : List Came) (new : HartsOf D) (history : List (EventOf Call Outside)) → IsHistory contents failures (sizes_of disk) w events came new history → OfEachCall (AreFew (version_in disk)) (events_of events) (outcomes_of came)
   history_few events came new history is =
-      subst (λ (es : List (EventOf Call (Unit {0}))). OfEachCall AreFew es (outcomes_of came)) is.asks
-      (subst (λ (os : List (OutcomeOf _ Reply _)). OfEachCall AreFew (all_asked history) os) same (as_asked L C AreFew history (outcomes L history start) (calls_few disk count history (mountable contents failures device w rests) honest)))
+      subst (λ (es : List (EventOf Call (Unit {0}))). OfEachCall (AreFew (version_in disk)) es (outcomes_of came)) is.asks
+      (subst (λ (os : List (OutcomeOf _ Reply _)). OfEachCall (AreFew (version_in disk)) (all_asked history) os) same (as_asked L C (AreFew (version_in disk)) history (outcomes L history start) (calls_few disk count history (mountable contents failures device w rests) honest)))
     where
       honest : AllHonest (block_calls (sizes_of disk)) history start
       honest = all_honest (sizes_of disk) history start (subst (AllAnswer (sizes_of disk) history) (sym (rests_erased contents failures device w rests)) is.answers)
@@ -87,4 +87,6 @@ module _ {D : Type 0} (contents : D → List (List ℕ)) (failures : D → ℕ) 
 pub runs_few : {D : Type 0} (contents : D → List (List ℕ)) (failures : D → ℕ) (w : WorldOf D) → RunsTakeFewSteps contents failures w
 runs_few contents failures w device events came new mounted h =
     let same : w.sizes ≡ sizes_of (contents w.harts.core.log.cache.device) = mounted.sizes ∙ sym mounted.rests.disk.sizes in
-    history_few contents failures device w.harts mounted.rests events came new h.0 (subst (λ (s : Super). IsHistory contents failures s w.harts events came new h.0) same h.1)
+    let here = subst (λ (s : Super). IsHistory contents failures s w.harts events came new h.0) same h.1 in
+    subst (λ (s : Super). OfEachCall (AreFew s.version) (events_of events) (outcomes_of came)) (sym same)
+    (history_few contents failures device w.harts mounted.rests events came new h.0 here)

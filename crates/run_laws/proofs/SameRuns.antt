@@ -1,18 +1,20 @@
 -- The calls on blocks have the same outcomes with either history beside them: the moves on the tree, or the
 -- operations on whole inodes.
-use Rattle.run_laws.proofs.Vocabulary.{◌≡◌, ℕ, Option, Some, None, List, [], ◌∷◌, refl, sym, ◌∙◌, ap, subst, Super, Reply, Call, Prog, Ret, Do, bind, ExecResult, Waits, Ran, Stops, PartOf as P, Theory, State, EventOf as Event, AllHonest, EventOutcome, makes, next, outcomes, run, ActOf, Both, both, lowered, seen_after, Outside, AnswerBelow as Answer, Op, program, machine, Carry, nothing, handlers, World, layer, block_calls, lowered_inode_calls, whole_inodes}
+use Rattle.run_laws.proofs.Vocabulary.{◌≡◌, ℕ, Option, Some, None, List, [], ◌∷◌, refl, sym, ◌∙◌, ap, subst, Super, Reply, Call, Prog, Ret, Do, bind, ExecResult, Waits, Ran, Stops, PartOf as P, Theory, State, EventOf as Event, AllHonest, EventOutcome, makes, next, outcomes, run, ActOf, Both, both, lowered, seen_after, Outside, AnswerBelow as Answer, Op, program, machine, Carry, nothing, handlers, World, layer, block_calls, lowered_inode_calls, whole_inodes, Version}
 use Rattle.inode_machine.specs.World as above
 use Rattle.calls_on_blocks.specs.Layer.{exec}
 use Rattle.run_laws.proofs.Bare.{Bare, HonestBare, bare, bare_honest, bare_made, bare_makes, honest_bare, makes_bare}
 
-seen_same : (h : ℕ) (t : Option (ActOf machine)) (g : above.World) → seen_after whole_inodes h t g ≡ seen_after machine h t g
-seen_same h None g = refl
-seen_same h (Some t) g = refl
+seen_same : (version : Version) (h : ℕ) (t : Option (ActOf (machine version))) (g : above.World)
+    → seen_after (whole_inodes version) h t g ≡ seen_after (machine version) h t g
+seen_same version h None g = refl
+seen_same version h (Some t) g = refl
 
-pub both_same : {A : Type 0} (h : ℕ) (m : A → Option (ActOf machine)) (g : above.World) (d : ExecResult A World) → both whole_inodes h m g d ≡ both machine h m g d
-both_same h m g Waits = refl
-both_same h m g (Ran a r) = λ i. Ran a (record { real = r; seen = seen_same h (m a) g i })
-both_same h m g (Stops r) = refl
+pub both_same : (version : Version) {A : Type 0} (h : ℕ) (m : A → Option (ActOf (machine version))) (g : above.World) (d : ExecResult A World)
+    → both (whole_inodes version) h m g d ≡ both (machine version) h m g d
+both_same version h m g Waits = refl
+both_same version h m g (Ran a r) = λ i. Ran a (record { real = r; seen = seen_same version h (m a) g i })
+both_same version h m g (Stops r) = refl
 
 module _ (sizes : Super) where
   abbrev L : Theory
@@ -22,20 +24,21 @@ module _ (sizes : Super) where
   N = lowered_inode_calls sizes
 
   abbrev Program : Type 0
-  Program = Prog Op Answer (ActOf machine) Reply
+  Program = Prog Op Answer (ActOf (machine sizes.version)) Reply
 
   abbrev Go : Type 0
-  Go = ℕ → Outside → (op : Op) → (Answer op → Option (ActOf machine)) → Both World above.World → ExecResult (Answer op) (Both World above.World)
+  Go = ℕ → Outside → (op : Op) → (Answer op → Option (ActOf (machine sizes.version))) → Both World above.World → ExecResult (Answer op) (Both World above.World)
 
-  program_same : {A : Type 0} (c : Carry) (p : P machine A) → lowered whole_inodes (layer sizes) (handlers sizes) c p ≡ lowered machine (layer sizes) (handlers sizes) c p
+  program_same : {A : Type 0} (c : Carry) (p : P (machine sizes.version) A)
+      → lowered (whole_inodes sizes.version) (layer sizes) (handlers sizes) c p ≡ lowered (machine sizes.version) (layer sizes) (handlers sizes) c p
   program_same c (Ret a) = refl
   program_same c (Do op m k) = λ i. bind (handlers sizes c op m) (λ r. program_same r.carry (k r.answer) i)
 
   programs_same : ◌≡◌ {A = Call → Program} N.program L.program
-  programs_same = λ i call. program_same nothing (program call) i
+  programs_same = λ i call. program_same nothing (program sizes.version call) i
 
   go_same : ◌≡◌ {A = Go} N.M.go L.M.go
-  go_same = λ i h x op m w. both_same h m w.seen (exec h x op w.real) i
+  go_same = λ i h x op m w. both_same sizes.version h m w.seen (exec h x op w.real) i
 
   -- an event makes the same of alike states
   makes_same : (e : Event Call Outside) (s : State L) (t : State N) → bare N t ≡ bare L s → bare_made N (makes N e t) ≡ bare_made L (makes L e s)

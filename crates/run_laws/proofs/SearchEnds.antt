@@ -1,5 +1,6 @@
 -- What each operation on whole inodes has seen whose program ends without room.
-use Rattle.run_laws.proofs.Vocabulary.{◌≡◌, ◌⊎◌, inl, inr, ◌<◌, ◌≤◌, ◌+◌, ◌-◌, ◌*◌, ◌/◌, ◌%◌, ℕ, zero, suc, ◌==◌, Bool, true, false, ◌&&◌, nat_lt, if◌then◌else◌, List, [], ◌∷◌, ◌++◌, length, Option, Some, None, IsSome, is_some, is_none, find, refl, sym, ◌∙◌, ap, subst, arith, length-append, nat_tests, length-replicate, Used, Dinode, IndexState, Loaded, no_index, Searched, Super, spell_dirent, with_entry, dinode_at, length-u16_bytes, Cause, Full, Blocks, Descriptors, Directory, DiskInodes, MemInodes, OpenFiles, Name, dot, dotdot, eq_self, same_or, In, Handover, Ret, ExecResult, Ran, Stops, Waits, bind, first_free, is_unreferenced, up_inode, place_in_memory, fetch, AnswerBelow as Answer, Op, claim_first, claims, in_tables, blocks_between, WriteResult, grown, store_written, write_blocks, write_part, free_among, free_in, inode_blocks, is_free_in, is_zero, inode_block, place_of, store, InodeType, ClaimResult, EntryResult, Wrote, Take, UnlockInode, UpStart, Up, WalkDown, Down, Free, Forget, Claim, Store, Fill, Enter, Clear, Empty, Slot, Install, StatFile, LockFile, ReadFile, CheckFile, JoinFile, LockOpen, WriteFile, Double, Shut, SetDirectory, Lend, LendDirectory, Release, Join, Leave, Say, dots, enter_in, entered_to, filled_to, put_grown, seek_free, Acts, acts, Carry, claim_at, claim_from, claim_in, put_named, handlers, loaded_in, record_in, with_index, give_written, refused_in, write_unless, kind_of, slot_for, most_slots, AnsweredStep, ClaimsFindReferences, ComesTo, HasRead, SawInUse, SawNoBlock, SawNoInode, SawNone, SearchesSeeAll, wanted_to_claim, wanted_to_double, wanted_to_enter, wanted_to_write, wanted_unless, wanted_without, dirent_len, inodes_per_block, name_len}
+use Rattle.run_laws.proofs.Vocabulary.{◌≡◌, ◌⊎◌, inl, inr, ◌<◌, ◌≤◌, ◌+◌, ◌-◌, ◌*◌, ◌/◌, ◌%◌, ℕ, zero, suc, ◌==◌, Bool, true, false, ◌&&◌, nat_lt, if◌then◌else◌, List, [], ◌∷◌, ◌++◌, length, Option, Some, None, IsSome, is_some, is_none, find, refl, sym, ◌∙◌, ap, subst, arith, length-append, nat_tests, length-replicate, Used, Dinode, IndexState, Loaded, no_index, Searched, Super, spell_dirent, with_entry, dinode_at, length-u16_bytes, Cause, Full, Blocks, Descriptors, Directory, DiskInodes, MemInodes, OpenFiles, Name, dot, dotdot, eq_self, same_or, In, Handover, Ret, ExecResult, Ran, Stops, Waits, bind, first_free, is_unreferenced, up_inode, place_in_memory, fetch, AnswerBelow as Answer, Op, claim_first, claims, in_tables, blocks_between, WriteResult, grown, store_written, write_blocks, write_part, free_among, free_in, inode_blocks, is_free_in, is_zero, inode_block, place_of, store, InodeType, ClaimResult, EntryResult, Wrote, Take, UnlockInode, UpStart, Up, WalkDown, Down, Free, Forget, Claim, Store, Fill, Enter, Clear, Empty, Slot, Install, StatFile, LockFile, ReadFile, CheckFile, JoinFile, LockOpen, WriteFile, Double, Shut, SetDirectory, Lend, LendDirectory, Release, Join, Leave, Say, dots, enter_in, entered_to, filled_to, put_grown, seek_free, Acts, acts, Carry, claim_at, claim_from, claim_in, put_named, handlers, loaded_in, record_in, with_index, give_written, refused_in, write_unless, kind_of, slot_for, most_slots, AnsweredStep, ClaimsFindReferences, ComesTo, HasRead, SawInUse, SawNoBlock, SawNoInode, SawNone, SearchesSeeAll, wanted_to_claim, wanted_to_double, wanted_to_enter, wanted_to_write, wanted_unless, wanted_without, dirent_len_of, new_directory_size_of, inodes_per_block, name_len_of, Version}
+use Rattle.image_versions.proofs.Places.{in_range}
 use Rattle.fs_machine.specs.Steps as steps
 use Rattle.fs_machine.specs.Steps.{State, exec}
 use Rattle.inode_machine.specs.World as above
@@ -8,13 +9,16 @@ use Rattle.run_laws.proofs.Searches.{fetched, in_back, in_front, read_back, read
 
 -- ---- names
 
-pub spelled : (n : ℕ) (e : Name) → length e ≤ name_len → length (spell_dirent (Used n e)) ≡ dirent_len
-spelled n e fits = simp (length-append, length-u16_bytes, length-replicate) (omega (arith, fits))
+pub spelled : (version : Version) (n : ℕ) (e : Name) → length e ≤ name_len_of version → length (spell_dirent version (Used n e)) ≡ dirent_len_of version
+spelled version n e fits = simp (length-append, length-u16_bytes, length-replicate) (omega (arith, fits))
 
-pub dots_spelled : (n d : ℕ) → length (dots n d) ≡ 2 * dirent_len
-dots_spelled n d =
-    length-append (spell_dirent (Used n dot)) (spell_dirent (Used d dotdot))
-    ∙ (λ i. spelled n dot (omega arith) i + spelled d dotdot (omega arith) i)
+pub dots_spelled : (version : Version) (n d : ℕ) → length (dots version n d) ≡ new_directory_size_of version
+dots_spelled version n d =
+    length-append (spell_dirent version (Used n dot)) (spell_dirent version (Used d dotdot))
+    ∙ (let wide = (in_range version).0 in
+    let one = spelled version n dot (omega (arith, wide)) in
+    let other = spelled version d dotdot (omega (arith, wide)) in
+    omega (arith, one, other))
 
 -- ---- the steps at an operation's end
 
@@ -89,28 +93,29 @@ module _ (sizes : Super) where
 
   -- ---- names
 
-  module _ (d : ℕ) (e : Name) (n : ℕ) (fits : length e ≤ name_len) (c : Carry) (m : EntryResult → Option above.Mark) where
+  module _ (d : ℕ) (e : Name) (n : ℕ) (fits : length e ≤ name_len_of sizes.version) (c : Carry) (m : EntryResult → Option above.Mark) where
     abbrev entry : List ℕ
-    entry = spell_dirent (Used n e)
+    entry = spell_dirent sizes.version (Used n e)
 
     -- all of it was written, or no block was seen
     entered_sees : (es ys : List AnsweredStep) (x : IndexState) (slot : ℕ) (w : WriteResult) (r : Handover EntryResult Carry)
-        → SawNoBlock sizes es ⊎ (w.upto ≡ dirent_len * slot + length (spell_dirent (Used n e))) → ComesTo (entered_to sizes d e n c m x slot w) ys r
+        → SawNoBlock sizes es ⊎ (w.upto ≡ dirent_len_of sizes.version * slot + length (spell_dirent sizes.version (Used n e)))
+        → ComesTo (entered_to sizes d e n c m x slot w) ys r
         → (room : Full) → wanted_to_enter r.answer ≡ Some room → SawNone sizes es room
-    entered_sees es ys x slot w r saw q room want = at (w.upto == dirent_len * (slot + 1)) refl q
+    entered_sees es ys x slot w r saw q room want = at (w.upto == dirent_len_of sizes.version * (slot + 1)) refl q
       where
-        whole : w.upto ≡ dirent_len * slot + length (spell_dirent (Used n e)) → (w.upto == dirent_len * (slot + 1)) ≡ true
+        whole : w.upto ≡ dirent_len_of sizes.version * slot + length (spell_dirent sizes.version (Used n e)) → (w.upto == dirent_len_of sizes.version * (slot + 1)) ≡ true
         whole upto =
-            let long = spelled n e fits in
-            let all : w.upto ≡ dirent_len * (slot + 1) = omega (arith, upto, long) in
-            ap (λ (z : ℕ). z == dirent_len * (slot + 1)) all ∙ eq_self (dirent_len * (slot + 1))
+            let long = spelled sizes.version n e fits in
+            let all : w.upto ≡ dirent_len_of sizes.version * (slot + 1) = omega (arith, upto, long) in
+            ap (λ (z : ℕ). z == dirent_len_of sizes.version * (slot + 1)) all ∙ eq_self (dirent_len_of sizes.version * (slot + 1))
 
-        at : (b : Bool) → (w.upto == dirent_len * (slot + 1)) ≡ b
-            → ComesTo (if b then put_grown (Enter d e n) above.Room m above.InPlace sizes d c (with_entry slot entry x) w else put_grown
+        at : (b : Bool) → (w.upto == dirent_len_of sizes.version * (slot + 1)) ≡ b
+            → ComesTo (if b then put_grown (Enter d e n) above.Room m above.InPlace sizes d c (with_entry sizes.version slot entry x) w else put_grown
             (Enter d e n) (above.RoomFor 0) m above.NoBlock sizes d c x w) ys r
             → SawNone sizes es room
         at true is p =
-            let a = grown_ends (Enter d e n) above.Room m above.InPlace d c (with_entry slot entry x) w ys r p in
+            let a = grown_ends (Enter d e n) above.Room m above.InPlace d c (with_entry sizes.version slot entry x) w ys r p in
             absurd (let z : None ≡ Some room = ap wanted_to_enter (sym a) ∙ want in cc)
         at false is p =
             let a = grown_ends (Enter d e n) (above.RoomFor 0) m above.NoBlock d c x w ys r p in
@@ -121,23 +126,23 @@ module _ (sizes : Super) where
 
     enter_in_sees : (es : List AnsweredStep) (x : IndexState) (slot : ℕ) (r : Handover EntryResult Carry)
         → ComesTo (enter_in sizes d e n c m x slot) es r → (room : Full) → wanted_to_enter r.answer ≡ Some room → SawNone sizes es room
-    enter_in_sees es x slot r q room want = at (nat_lt slot most_slots) es q
+    enter_in_sees es x slot r q room want = at (nat_lt slot (most_slots sizes.version)) es q
       where
         count : ℕ
-        count = blocks_between (dirent_len * slot) (dirent_len * slot + length (spell_dirent (Used n e)))
+        count = blocks_between (dirent_len_of sizes.version * slot) (dirent_len_of sizes.version * slot + length (spell_dirent sizes.version (Used n e)))
 
         full : P (Handover EntryResult Carry)
         full = Ret (record { answer = above.NoSlot; carry = with_index c d x })
 
         at : (b : Bool) (es : List AnsweredStep)
-            → ComesTo (if b then bind (write_blocks count sizes (dirent_len * slot) (spell_dirent (Used n e)) (record_in c d))
+            → ComesTo (if b then bind (write_blocks count sizes (dirent_len_of sizes.version * slot) (spell_dirent sizes.version (Used n e)) (record_in c d))
             (entered_to sizes d e n c m x slot) else full) es r
             → SawNone sizes es room
         at true es p =
-            let s = split (write_blocks count sizes (dirent_len * slot) (spell_dirent (Used n e)) (record_in c d))
+            let s = split (write_blocks count sizes (dirent_len_of sizes.version * slot) (spell_dirent sizes.version (Used n e)) (record_in c d))
             (entered_to sizes d e n c m x slot) es r p in
-            let w = written sizes count (dirent_len * slot) (spell_dirent (Used n e)) (record_in c d) s.front s.value refl s.first in
-            let long : ℕ = dirent_len * slot + length (spell_dirent (Used n e)) in
+            let w = written sizes count (dirent_len_of sizes.version * slot) (spell_dirent sizes.version (Used n e)) (record_in c d) s.front s.value refl s.first in
+            let long : ℕ = dirent_len_of sizes.version * slot + length (spell_dirent sizes.version (Used n e)) in
             entered_sees es s.back x slot s.value r (none_or es s.front s.back s.is s.value long w) s.then_ room want
         at false [] p = of_kind [] Directory tt room (ap (λ (z : Handover EntryResult Carry). wanted_to_enter z.answer) p ∙ want)
         at false (y ∷ es) p = absurd p
@@ -145,26 +150,26 @@ module _ (sizes : Super) where
     pub enter_sees : (es : List AnsweredStep) (r : Handover EntryResult Carry) → ComesTo (handlers sizes c (Enter d e n) m) es r
         → (room : Full) → wanted_to_enter r.answer ≡ Some room → SawNone sizes es room
     enter_sees es r q room want =
-        let s = split (seek_free (acts (Enter d e n) above.Room m) (loaded_in c d))
-        (λ o. enter_in sizes d e n c m o.index (slot_for (record_in c d) o.found)) es r q in
+        let s = split (seek_free sizes.version (acts (Enter d e n) above.Room m) (loaded_in c d))
+        (λ o. enter_in sizes d e n c m o.index (slot_for sizes.version (record_in c d) o.found)) es r q in
         let o : Searched = s.value in
-        seen_behind es s.front s.back s.is room (enter_in_sees s.back o.index (slot_for (record_in c d) o.found) r s.then_ room want)
+        seen_behind es s.front s.back s.is room (enter_in_sees s.back o.index (slot_for sizes.version (record_in c d) o.found) r s.then_ room want)
 
   -- ---- a new directory's two names
 
   module _ (n d : ℕ) (c : Carry) (m : Bool → Option above.Mark) where
     filled_sees : (es ys : List AnsweredStep) (w : WriteResult) (r : Handover Bool Carry)
-        → SawNoBlock sizes es ⊎ (w.upto ≡ 0 + length (dots n d))
+        → SawNoBlock sizes es ⊎ (w.upto ≡ 0 + length (dots sizes.version n d))
         → ComesTo (filled_to sizes n d c m w) ys r → (room : Full) → wanted_unless Blocks r.answer ≡ Some room → SawNone sizes es room
-    filled_sees es ys w r saw q room want = at (w.upto == 2 * dirent_len) refl q
+    filled_sees es ys w r saw q room want = at (w.upto == new_directory_size_of sizes.version) refl q
       where
-        whole : w.upto ≡ 0 + length (dots n d) → (w.upto == 2 * dirent_len) ≡ true
+        whole : w.upto ≡ 0 + length (dots sizes.version n d) → (w.upto == new_directory_size_of sizes.version) ≡ true
         whole upto =
-            let long = dots_spelled n d in
-            let all : w.upto ≡ 2 * dirent_len = omega (arith, upto, long) in
-            ap (λ (z : ℕ). z == 2 * dirent_len) all
+            let long = dots_spelled sizes.version n d in
+            let all : w.upto ≡ new_directory_size_of sizes.version = omega (arith, upto, long) in
+            ap (λ (z : ℕ). z == new_directory_size_of sizes.version) all ∙ eq_self (new_directory_size_of sizes.version)
 
-        at : (b : Bool) → (w.upto == 2 * dirent_len) ≡ b
+        at : (b : Bool) → (w.upto == new_directory_size_of sizes.version) ≡ b
             → ComesTo (if b then put_grown (Fill n d) above.Room m true sizes n c no_index w else put_grown (Fill n d)
             (above.RoomFor 0) m false sizes n c no_index w) ys r
             → SawNone sizes es room
@@ -181,10 +186,10 @@ module _ (sizes : Super) where
     fill_sees : (es : List AnsweredStep) (r : Handover Bool Carry) → ComesTo (handlers sizes c (Fill n d) m) es r
         → (room : Full) → wanted_unless Blocks r.answer ≡ Some room → SawNone sizes es room
     fill_sees es r q room want =
-        let count : ℕ = blocks_between 0 (0 + length (dots n d)) in
-        let s = split (write_blocks count sizes 0 (dots n d) (record_in c n)) (filled_to sizes n d c m) es r q in
-        let w = written sizes count 0 (dots n d) (record_in c n) s.front s.value refl s.first in
-        filled_sees es s.back s.value r (none_or es s.front s.back s.is s.value (0 + length (dots n d)) w) s.then_ room want
+        let count : ℕ = blocks_between 0 (0 + length (dots sizes.version n d)) in
+        let s = split (write_blocks count sizes 0 (dots sizes.version n d) (record_in c n)) (filled_to sizes n d c m) es r q in
+        let w = written sizes count 0 (dots sizes.version n d) (record_in c n) s.front s.value refl s.first in
+        filled_sees es s.back s.value r (none_or es s.front s.back s.is s.value (0 + length (dots sizes.version n d)) w) s.then_ room want
 
   -- ---- a piece of a file
 

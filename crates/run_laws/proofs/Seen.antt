@@ -282,7 +282,7 @@ module _ (sizes : Super) where
   ran_happened : (s : State (block_calls sizes)) (h : ℕ) (x : Outside) (op : Op) (m : Answer op
       → Option Acts) (d : ExecResult (Answer op) steps.State)
       → steps.exec h x op s.world.real.blocks.state ≡ d → (e : MadeStep)
-      → In e (if_ran s.now h s.world op (both machine h m s.world.seen
+      → In e (if_ran s.now h s.world op (both (machine sizes.version) h m s.world.seen
       (exec_result_in (λ v. record (s.world.real) { blocks = v }) (came_to h op s.world.real.blocks d)))) → Happened e
   ran_happened s h x op m Waits is e i = absurd i
   ran_happened s h x op m (Stops t) is e i = absurd i
@@ -316,17 +316,17 @@ module _ (sizes : Super) where
 
   -- ---- what a call's steps have seen
 
-  program_sees : (room : Full) (apart : MemInodes ≢ room) (p : Above Reply) (c : Carry) → Blames room p
+  program_sees : (room : Full) (apart : MemInodes ≢ room) (p : Above Reply) (c : Carry) → Blames sizes.version room p
       → (es : List AnsweredStep) (reply : Reply)
-      → ComesTo (lowered machine (layer sizes) (handlers sizes) c p) es reply → reply.answer ≡ answers.Full room → SawNone sizes es room
+      → ComesTo (lowered (machine sizes.version) (layer sizes) (handlers sizes) c p) es reply → reply.answer ≡ answers.Full room → SawNone sizes es room
   program_sees room apart (Ret r) c b [] reply q full = absurd (b (ap (λ (z : Reply). z.answer) q ∙ full))
   program_sees room apart (Ret r) c b (e ∷ es) reply q full = absurd q
   program_sees room apart (Do op m k) c b es reply q full =
-      let next_ = λ (r : Handover (above.Answer op) Carry). lowered machine (layer sizes) (handlers sizes) r.carry (k r.answer) in
+      let next_ = λ (r : Handover (above.Answer op) Carry). lowered (machine sizes.version) (layer sizes) (handlers sizes) r.carry (k r.answer) in
       let s = split (handlers sizes c op m) next_ es reply q in
       elim (b.1 s.value.answer) [
         | inl want ↦ seen_front sizes es s.front s.back s.is room (all_see sizes c op m s.front s.value room b.0 s.first want)
-        | inr later ↦ elim (goes_or room op s.value.answer (k s.value.answer) (Blames room (k s.value.answer)) later) [
+        | inr later ↦ elim (goes_or sizes.version room op s.value.answer (k s.value.answer) (Blames sizes.version room (k s.value.answer)) later) [
           | inl never ↦ absurd (apart (sym never.0))
           | inr then_ ↦ seen_behind sizes es s.front s.back s.is room
               (program_sees room apart (k s.value.answer) s.value.carry then_ s.back reply s.then_ full)
@@ -336,7 +336,7 @@ module _ (sizes : Super) where
   call_sees : (room : Full) (apart : MemInodes ≢ room) (call : Call) (es : List AnsweredStep) (reply : Reply)
       → ComesTo (L.program call) es reply
       → reply.answer ≡ answers.Full room → SawNone sizes es room
-  call_sees room apart call es reply q full = program_sees room apart (program call) nothing (calls_blame room call) es reply q full
+  call_sees room apart call es reply q full = program_sees room apart (program sizes.version call) nothing (calls_blame sizes.version room call) es reply q full
 
   -- the step that was so answered
   step_there : (x : AnsweredStep) (es : List MadeStep) → In x (answered es) → (e : MadeStep) × In e es × (e.step ≡ x)

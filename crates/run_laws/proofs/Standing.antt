@@ -1,14 +1,14 @@
 -- A call that found no room leaves what stays with its reply.
-use Rattle.run_laws.proofs.Vocabulary.{◌≡◌, inr, ℕ, false, List, [], Option, None, subst, Super, sizes_of, Full, Reply, Call, TracedCall, fresh, run, program, first, trace_in, WorldOf, changes_of, operations_of, CallsWithoutRoomTakeBack, LeavesThat, Stands, IsRunOfCall, Operation, lowered_inode_calls, IsRun, RunsTo}
+use Rattle.run_laws.proofs.Vocabulary.{◌≡◌, inr, ℕ, false, List, [], Option, None, subst, Super, sizes_of, Full, Reply, Call, TracedCall, fresh, run, program, first, trace_in, WorldOf, changes_of, operations_of, CallsWithoutRoomTakeBack, LeavesThat, Stands, IsRunOfCall, Operation, lowered_inode_calls, IsRun, RunsTo, Version, version_in}
 use Rattle.plain_tree.specs.declared.answer.Answer.TheVariants as answers
 use Rattle.run_laws.proofs.Answered.{both_of}
 use Rattle.run_laws.proofs.Leaving.{calls_leave, run_leaves}
 use Rattle.run_laws.proofs.Worlds.{worlds_refine}
 
-call_leaves : (call : Call) (es : List Operation) (reply : Reply) (room : Full) → IsRunOfCall call es reply
+call_leaves : (version : Version) (call : Call) (es : List Operation) (reply : Reply) (room : Full) → IsRunOfCall version call es reply
     → reply.answer ≡ answers.Full room → Stands room call (changes_of es)
-call_leaves call es reply room g full =
-    run_leaves call (program call) None false [] es reply room (calls_leave call) g.runs full (inr (g.wants room full))
+call_leaves version call es reply room g full =
+    run_leaves version call (program version call) None false [] es reply room (calls_leave version call) g.runs full (inr (g.wants room full))
 
 pub take_back : {D : Type 0} (contents : D → List (List ℕ)) (failures : D → ℕ) (w : WorldOf D)
     → CallsWithoutRoomTakeBack contents failures w
@@ -27,4 +27,4 @@ take_back contents failures w device events came new history mounted is =
         let sizes : Super = sizes_of disk in
         let s = run (lowered_inode_calls (sizes_of disk)) history (fresh (lowered_inode_calls (sizes_of disk)) (first disk count)) in
         let es : List Operation = operations_of sizes s c.start in
-        call_leaves c.call es reply room (subst (λ (o : Option (ℕ × Reply)). RunsTo c.call es o) ends runs) full
+        call_leaves (version_in disk) c.call es reply room (subst (λ (o : Option (ℕ × Reply)). RunsTo (version_in disk) c.call es o) ends runs) full

@@ -123,7 +123,8 @@ module _ (sizes : Super) where
 
           here : BeginsHere h call (busy_in L s) (shared_of s.world.real) t u.real
           here = begun_here h call (busy_in L s) (shared_of s.world.real) t u.real
-              (begun_both (began_to s.world.seen (served_calls.start h call (busy_in L s) s.world.seen)) (begins sizes h call (busy_in L s) s.world.real) u is).0
+              (begun_both (began_to s.world.seen ((served_calls sizes.version).start h call (busy_in L s) s.world.seen))
+              (begins sizes h call (busy_in L s) s.world.real) u is).0
 
           same : blocks_of s.world ≡ u.real.blocks.state
           same = ap (λ (r : World). r.blocks.state) here.same
@@ -233,7 +234,7 @@ module _ (sizes : Super) where
       tried_so : (ps : Answer op → List (ℕ × L.M.Step)) (d : ExecResult (Answer op) steps.State)
           → AgreesAfter h (blocks_of s.world) (o h) (keeps.agrees runs h) (λ a. recorded_after op a (o h)) d
           → ((j : ℕ) → j ≢ h → After (λ t. own_of j t.log ≡ own_of j (blocks_of s.world).log) d)
-          → let went = both machine h m s.world.seen (exec_result_in (λ v. record (s.world.real) { blocks = v }) (came_to h op s.world.real.blocks d)) in
+          → let went = both (machine sizes.version) h m s.world.seen (exec_result_in (λ v. record (s.world.real) { blocks = v }) (came_to h op s.world.real.blocks d)) in
           Keeps (tried L h s r op ps k went).after (λ j. recorded_from j (o j) (if_ran s.now h s.world op went))
       tried_so ps Waits mine others = quietly
       tried_so ps (Stops t) mine others = stopped _

@@ -41,12 +41,12 @@ module _ (sizes : Super) where
 
   -- what is noted from here on, if the operation has acted so, or hasn't yet
   abbrev pub ReadsOn : Option Reply → (u : UnderWay) → Option (above.Answer u.op) → P (Handover (above.Answer u.op) Carry) → Notes (lowered_inode_calls sizes).M → Type 0
-  ReadsOn r u None left rest = ActsWithin J {C = Carry} (IsOperation u.op u.mark) (IsUnderWay r) (λ x more. IsFaithful whole_inodes (layer sizes) (handlers sizes) IsOperation r x.carry (u.rest x.answer) more) left rest
-  ReadsOn r u (Some a) left rest = EndsWith J {C = Carry} (IsOperation u.op u.mark) (IsUnderWay r) (λ x more. IsFaithful whole_inodes (layer sizes) (handlers sizes) IsOperation r x.carry (u.rest x.answer) more) a left rest
+  ReadsOn r u None left rest = ActsWithin J {C = Carry} (IsOperation u.op u.mark) (IsUnderWay r) (λ x more. IsFaithful (whole_inodes sizes.version) (layer sizes) (handlers sizes) IsOperation r x.carry (u.rest x.answer) more) left rest
+  ReadsOn r u (Some a) left rest = EndsWith J {C = Carry} (IsOperation u.op u.mark) (IsUnderWay r) (λ x more. IsFaithful (whole_inodes sizes.version) (layer sizes) (handlers sizes) IsOperation r x.carry (u.rest x.answer) more) a left rest
 
   -- the call's program, which ends with Some of its reply
   abbrev pub there_left : UnderWay → P (Option Reply)
-  there_left u = bind (bind u.left (λ z. lowered whole_inodes (layer sizes) (handlers sizes) z.carry (u.rest z.answer))) (λ a. Ret (Some a))
+  there_left u = bind (bind u.left (λ z. lowered (whole_inodes sizes.version) (layer sizes) (handlers sizes) z.carry (u.rest z.answer))) (λ a. Ret (Some a))
 
   pub record InCall (call : Call) (done : Notes (lowered_inode_calls sizes).M) (left : P Reply) (there : P (Option Reply)) (u : UnderWay) : Type 0 where
     pub is_in : IsInOperation sizes left u
@@ -71,8 +71,8 @@ module _ (sizes : Super) where
     pub begins_on : IsAtEnd (handlers sizes hand op m) → ⊥
     begins_on = marked_goes_on (time_of op) (handlers sizes hand op m) first_marked
 
-    pub begins_in : ((r : Option Reply) (rest : Notes (lowered_inode_calls sizes).M) → AreOf sizes call r (onto done rest) → IsFaithful whole_inodes (layer sizes) (handlers sizes) IsOperation r hand (Do op m k) rest)
-        → InCall call done (lowered machine (layer sizes) (handlers sizes) hand (Do op m k)) (bind (lowered whole_inodes (layer sizes) (handlers sizes) hand (Do op m k)) (λ a. Ret (Some a))) (begun_at hand op m k)
+    pub begins_in : ((r : Option Reply) (rest : Notes (lowered_inode_calls sizes).M) → AreOf sizes call r (onto done rest) → IsFaithful (whole_inodes sizes.version) (layer sizes) (handlers sizes) IsOperation r hand (Do op m k) rest)
+        → InCall call done (lowered (machine sizes.version) (layer sizes) (handlers sizes) hand (Do op m k)) (bind (lowered (whole_inodes sizes.version) (layer sizes) (handlers sizes) hand (Do op m k)) (λ a. Ret (Some a))) (begun_at hand op m k)
     begins_in way =
         record {
           is_in = record { is = refl; leads = refl; goes_on = begins_on; acted = never_yet (time_of op) };
@@ -81,37 +81,37 @@ module _ (sizes : Super) where
           reads = λ r rest t. at r rest (way r rest t);
         }
       where
-        at : (r : Option Reply) (rest : Notes (lowered_inode_calls sizes).M) → IsFaithful whole_inodes (layer sizes) (handlers sizes) IsOperation r hand (Do op m k) rest → ReadsOn r (begun_at hand op m k) None (handlers sizes hand op m) rest
-        at r [] t = opened (IsOperation op m) (IsUnderWay r) (λ x more. IsFaithful whole_inodes (layer sizes) (handlers sizes) IsOperation r x.carry (k x.answer) more) (handlers sizes hand op m) begins_on t
+        at : (r : Option Reply) (rest : Notes (lowered_inode_calls sizes).M) → IsFaithful (whole_inodes sizes.version) (layer sizes) (handlers sizes) IsOperation r hand (Do op m k) rest → ReadsOn r (begun_at hand op m k) None (handlers sizes hand op m) rest
+        at r [] t = opened (IsOperation op m) (IsUnderWay r) (λ x more. IsFaithful (whole_inodes sizes.version) (layer sizes) (handlers sizes) IsOperation r x.carry (k x.answer) more) (handlers sizes hand op m) begins_on t
         at r (e ∷ rest) t = t
 
   -- ---- a step of it
 
   module _ (h : ℕ) (x : Outside) (call : Call) (done : Notes (lowered_inode_calls sizes).M) (u : UnderWay) (op : steps.Op) (m : AnswerBelow op → Option Acts) (k : AnswerBelow op → P (Handover (above.Answer u.op) Carry)) (b : AnswerBelow op) (v w : W) where
     abbrev pub made_there : List Operation
-    made_there = own h (act_places whole_inodes h (m b) v.seen)
+    made_there = own h (act_places (whole_inodes sizes.version) h (m b) v.seen)
 
     abbrev pub note_there : StepNote AnsweredStep Operation
-    note_there = record { ran = (op, b); made = own h (act_places whole_inodes h (m b) v.seen) }
+    note_there = record { ran = (op, b); made = own h (act_places (whole_inodes sizes.version) h (m b) v.seen) }
 
     abbrev Then : Option Reply → Handover (above.Answer u.op) Carry → Notes (lowered_inode_calls sizes).M → Type 0
-    Then r z more = IsFaithful whole_inodes (layer sizes) (handlers sizes) IsOperation r z.carry (u.rest z.answer) more
+    Then r z more = IsFaithful (whole_inodes sizes.version) (layer sizes) (handlers sizes) IsOperation r z.carry (u.rest z.answer) more
 
     -- what the step did, if the operation had acted so before
     pub record Turned (acted : Option (above.Answer u.op)) : Type 0 where
       pub acts : Option (above.Answer u.op)
       pub at : ActsThen (time_of u.op) (none_ran u.ran) (is_at_end (k b)) (is_some acts)
       pub once : is_some acts ≡ true → acted ≡ None
-      pub made : IsMadeBy h u acts v.seen w.seen
-      pub moves : ◌≡◌ {A = List (ℕ × MoveStep)} (act_places machine h (m b) v.seen) (placed_by h u acts v.seen)
+      pub made : IsMadeBy sizes.version h u acts v.seen w.seen
+      pub moves : ◌≡◌ {A = List (ℕ × MoveStep)} (act_places (machine sizes.version) h (m b) v.seen) (placed_by sizes.version h u acts v.seen)
       pub ends : EndsAsActed u (or_else acts acted) (k b)
       pub reads : (r : Option Reply) (rest : Notes (lowered_inode_calls sizes).M) → AreOf sizes call r (onto done (note_there ∷ rest)) → ReadsOn r u (or_else acts acted) (k b) rest
 
     module _ (ran : L.M.go h x op m v ≡ Ran b w) (before : Shows v.real.blocks v.seen) (after : Shows w.real.blocks w.seen) (told : AreOf sizes call None (onto done (note_there ∷ []))) (marked : MarkedSo (time_of u.op) (none_ran u.ran) (Do op m k))
         (first : time_of u.op ≡ InFirst → none_ran u.ran ≡ true → ActsAtOnce sizes h v (Do op m k)) where
       -- nothing was made
-      quiet : ◌≡◌ {A = List Operation} made_there [] → (w.seen ≡ v.seen) × (◌≡◌ {A = List (ℕ × MoveStep)} (act_places machine h (m b) v.seen) [])
-      quiet none = let n = none_made h v.seen (m b) none in (seen_is h m v.seen ((layer sizes).exec h x op v.real) b w ran ∙ n.0, n.1)
+      quiet : ◌≡◌ {A = List Operation} made_there [] → (w.seen ≡ v.seen) × (◌≡◌ {A = List (ℕ × MoveStep)} (act_places (machine sizes.version) h (m b) v.seen) [])
+      quiet none = let n = none_made sizes.version h v.seen (m b) none in (seen_is sizes.version h m v.seen ((layer sizes).exec h x op v.real) b w ran ∙ n.0, n.1)
 
       not_ended : (q : P (Handover (above.Answer u.op) Carry)) → (IsAtEnd q → ⊥) → EndsAsActed u None q
       not_ended (Ret z) goes = absurd (goes tt)
@@ -167,14 +167,14 @@ module _ (sizes : Super) where
               at r rest (inl q) = q.1
               at r rest (inr q) = absurd (none_is q.1 [] (sym q.2 ∙ p.0))
           by (inr p) =
-              let o = one_made h v.seen (m b) u.op u.mark p.0 p.1 p.2 p.3 in
-              let seen = seen_is h m v.seen ((layer sizes).exec h x op v.real) b w ran in
-              let does : go h o.0.0 u.op u.mark v.seen ≡ Ran p.0 w.seen = o.0.1 ∙ ap (λ (g : above.World). Ran p.0 g) (sym seen) in
+              let o = one_made sizes.version h v.seen (m b) u.op u.mark p.0 p.1 p.2 p.3 in
+              let seen = seen_is sizes.version h m v.seen ((layer sizes).exec h x op v.real) b w ran in
+              let does : go sizes.version h o.0.0 u.op u.mark v.seen ≡ Ran p.0 w.seen = o.0.1 ∙ ap (λ (g : above.World). Ran p.0 g) (sym seen) in
               record {
                 acts = Some p.0;
                 at = acts_then op m k b (time_of u.op) (none_ran u.ran) marked p.4;
                 once = λ s. refl;
-                made = ((o.0.0, does), sees_truly h o.0.0 u.op u.mark p.0 v.seen w.seen does);
+                made = ((o.0.0, does), sees_truly sizes.version h o.0.0 u.op u.mark p.0 v.seen w.seen does);
                 moves = o.1;
                 ends = ended p.0 (k b) p.5;
                 reads = λ r rest t. at r rest (read r rest t);

@@ -1,6 +1,6 @@
 -- Beside a run of the calls on blocks there are what is under way in each hart's call, and the same run with its
 -- notes. This is one step of both.
-use Rattle.inode_machine.specs.VersionOne as one
+use Rattle.inode_machine.specs.Kept as kept
 use Rattle.run_laws.proofs.Vocabulary.{◌≡◌, ◌≢◌, ℕ, Bool, true, false, nat_eq, if◌then◌else◌, Option, Some, None, is_some, List, [], ◌∷◌, ◌++◌, refl, sym, ◌∙◌, ap, subst, eqb-false, ne_eqb, Super, Reply, Prog, Ret, Do, bind, Ran, own, own_one, onto, or_else, Theory, Run, State, Made, Step, changed, told, moved, act_places, Handover, lowered, Outside, AnswerBelow, HasInodes, Carry, handlers, layer, machine, Mark, block_calls, block_moves, lowered_inode_calls, whole_inodes, IsAtEnd, IsFaithful, IsOperation, Notes, AreOf, EndsAsActed, HasActed, IsMadeBy, LeadTo, RunsAStep, StepDoes, UnderWay, at_beginning, gone_on, none_ran, is_at_end, time_of, call_outcome, step_outcome}
 use Rattle.fs_machine.specs.Steps as steps
 use Rattle.inode_machine.specs.World as above
@@ -65,10 +65,10 @@ module _ (sizes : Super) where
     module _ (inodes : HasInodes sizes) (r : Run (block_calls sizes)) (q : Run (telling (lowered_inode_calls sizes) (AreOf sizes))) (u : UnderWay) (is : under h ≡ Some u) (in_ : InCall sizes q.call q.done r.prog q.prog u)
         (op : steps.Op) (m : AnswerBelow op → Option Acts) (k : AnswerBelow op → P (Handover (above.Answer u.op) Carry)) (asks : u.left ≡ Do op m k) where
       abbrev after_this : Handover (above.Answer u.op) Carry → P Reply
-      after_this z = lowered machine (layer sizes) (handlers sizes) z.carry (u.rest z.answer)
+      after_this z = lowered (machine sizes.version) (layer sizes) (handlers sizes) z.carry (u.rest z.answer)
 
       abbrev after_that : Handover (above.Answer u.op) Carry → P Reply
-      after_that z = lowered whole_inodes (layer sizes) (handlers sizes) z.carry (u.rest z.answer)
+      after_that z = lowered (whole_inodes sizes.version) (layer sizes) (handlers sizes) z.carry (u.rest z.answer)
 
       abbrev some : Reply → P (Option Reply)
       some a = Ret (Some a)
@@ -78,12 +78,12 @@ module _ (sizes : Super) where
         note = note_there sizes h x q.call q.done u op m k b s.world w
 
         -- of the other harts nothing changes
-        others : (j : ℕ) → j ≢ h → InCalls (told L (own j (act_places machine h (m b) s.world.seen)) (s.running j)) (told O (own j ((h, note) ∷ [])) (t.running j)) (under j)
+        others : (j : ℕ) → j ≢ h → InCalls (told L (own j (act_places (machine sizes.version) h (m b) s.world.seen)) (s.running j)) (told O (own j ((h, note) ∷ [])) (t.running j)) (under j)
         others j ne =
-            subst (λ (zs : List O.M.Step). InCalls (told L (own j (act_places machine h (m b) s.world.seen)) (s.running j)) (told O zs (t.running j)) (under j)) (sym (own_none j h note ne))
-            (told_beside (own j (act_places machine h (m b) s.world.seen)) (s.running j) (t.running j) (under j) (beside.calls j))
+            subst (λ (zs : List O.M.Step). InCalls (told L (own j (act_places (machine sizes.version) h (m b) s.world.seen)) (s.running j)) (told O zs (t.running j)) (under j)) (sym (own_none j h note ne))
+            (told_beside (own j (act_places (machine sizes.version) h (m b) s.world.seen)) (s.running j) (t.running j) (under j) (beside.calls j))
 
-        module _ (ran : L.M.go h x op m s.world ≡ Ran b w) (places : one.placed (block_moves sizes) (Step h x) s ≡ act_places machine h (m b) s.world.seen) (t_ : Turned sizes h x q.call q.done u op m k b s.world w u.acted) where
+        module _ (ran : L.M.go h x op m s.world ≡ Ran b w) (places : kept.placed sizes.version (block_moves sizes) (Step h x) s ≡ act_places (machine sizes.version) h (m b) s.world.seen) (t_ : Turned sizes h x q.call q.done u op m k b s.world w u.acted) where
           abbrev acted : Option (above.Answer u.op)
           acted = or_else t_.acts u.acted
 
@@ -102,7 +102,7 @@ module _ (sizes : Super) where
                 acts = t_.acts;
                 then_ = t_.at;
                 once = t_.once;
-                does = subst (λ (z : W). IsMadeBy h u t_.acts s.world.seen z.seen) (sym world) t_.made;
+                does = subst (λ (z : W). IsMadeBy sizes.version h u t_.acts s.world.seen z.seen) (sym world) t_.made;
                 places = places ∙ t_.moves;
                 ends = t_.ends;
                 came = came;
@@ -143,7 +143,7 @@ module _ (sizes : Super) where
 
           -- it has ended, and the next one begins
           next_in : (z : Handover (above.Answer u.op) Carry) → k b ≡ Ret z → (next : above.Op) (mark : above.Answer next → Option Mark) (rest : above.Answer next → Prog above.Op above.Answer Mark Reply) → u.rest z.answer ≡ Do next mark rest
-              → InCall sizes q.call done (lowered machine (layer sizes) (handlers sizes) z.carry (Do next mark rest)) (bind (lowered whole_inodes (layer sizes) (handlers sizes) z.carry (Do next mark rest)) some) (begun_at sizes z.carry next mark rest)
+              → InCall sizes q.call done (lowered (machine sizes.version) (layer sizes) (handlers sizes) z.carry (Do next mark rest)) (bind (lowered (whole_inodes sizes.version) (layer sizes) (handlers sizes) z.carry (Do next mark rest)) some) (begun_at sizes z.carry next mark rest)
           next_in z e next mark rest goes =
               begins_in sizes inodes q.call done z.carry next mark rest
               (λ r more y.
@@ -151,15 +151,16 @@ module _ (sizes : Super) where
               let at_end = subst (λ (c : P (Handover (above.Answer u.op) Carry)). ReadsOn sizes r u acted c more) e read in
               let has : acted ≡ Some z.answer = subst (EndsAsActed u acted) e t_.ends in
               let ended = subst (λ (c : Option (above.Answer u.op)). ReadsOn sizes r u c (Ret z) more) has at_end in
-              subst (λ (p : Prog above.Op above.Answer Mark Reply). IsFaithful whole_inodes (layer sizes) (handlers sizes) IsOperation r z.carry p more) goes ended.1)
+              subst (λ (p : Prog above.Op above.Answer Mark Reply). IsFaithful (whole_inodes sizes.version) (layer sizes)
+              (handlers sizes) IsOperation r z.carry p more) goes ended.1)
 
           abbrev Goes_on : P Reply → P (Option Reply) → Type 0
-          Goes_on p p' = Steps (moved L h s r (op, b) (act_places machine h (m b) s.world.seen) p w) (moved O h t q (op, b) ((h, note) ∷ []) p' w)
+          Goes_on p p' = Steps (moved L h s r (op, b) (act_places (machine sizes.version) h (m b) s.world.seen) p w) (moved O h t q (op, b) ((h, note) ∷ []) p' w)
 
-          by_rest : (z : Handover (above.Answer u.op) Carry) → k b ≡ Ret z → (g : Prog above.Op above.Answer Mark Reply) → u.rest z.answer ≡ g → Goes_on (lowered machine (layer sizes) (handlers sizes) z.carry g) (bind (lowered whole_inodes (layer sizes) (handlers sizes) z.carry g) some)
+          by_rest : (z : Handover (above.Answer u.op) Carry) → k b ≡ Ret z → (g : Prog above.Op above.Answer Mark Reply) → u.rest z.answer ≡ g → Goes_on (lowered (machine sizes.version) (layer sizes) (handlers sizes) z.carry g) (bind (lowered (whole_inodes sizes.version) (layer sizes) (handlers sizes) z.carry g) some)
           by_rest z e (Ret reply) goes = (
             changed under h None,
-            ran_so (moved L h s r (op, b) (act_places machine h (m b) s.world.seen) (Ret reply) w) (changed under h None) refl
+            ran_so (moved L h s r (op, b) (act_places (machine sizes.version) h (m b) s.world.seen) (Ret reply) w) (changed under h None) refl
                 (sym (ap (step_outcome sizes u (op, b)) e ∙ ap (call_outcome sizes (op, b)) goes))
                 (ap (λ (o : Option UnderWay). changed under h o) (sym (ap (gone_on sizes u acted (op, b)) e ∙ ap (at_beginning sizes z.carry) goes))),
             record {
@@ -169,10 +170,10 @@ module _ (sizes : Super) where
             },
           )
           by_rest z e (Do next mark rest) goes =
-              subst (λ (a : Made L). Steps a (moved O h t q (op, b) ((h, note) ∷ []) there w)) (sym (moved_on L h s r (op, b) (act_places machine h (m b) s.world.seen) here w here_on))
-              (subst (λ (c : Made O). Steps (went_on L h s r (op, b) (act_places machine h (m b) s.world.seen) here w) c) (sym (moved_on O h t q (op, b) ((h, note) ∷ []) there w there_on)) (
+              subst (λ (a : Made L). Steps a (moved O h t q (op, b) ((h, note) ∷ []) there w)) (sym (moved_on L h s r (op, b) (act_places (machine sizes.version) h (m b) s.world.seen) here w here_on))
+              (subst (λ (c : Made O). Steps (went_on L h s r (op, b) (act_places (machine sizes.version) h (m b) s.world.seen) here w) c) (sym (moved_on O h t q (op, b) ((h, note) ∷ []) there w there_on)) (
                 changed under h now,
-                ran_so (went_on L h s r (op, b) (act_places machine h (m b) s.world.seen) here w) (changed under h now) refl
+                ran_so (went_on L h s r (op, b) (act_places (machine sizes.version) h (m b) s.world.seen) here w) (changed under h now) refl
                     (sym (ap (step_outcome sizes u (op, b)) e ∙ ap (call_outcome sizes (op, b)) goes))
                     (ap (λ (o : Option UnderWay). changed under h o) (sym (ap (gone_on sizes u acted (op, b)) e ∙ ap (at_beginning sizes z.carry) goes))),
                 record {
@@ -183,10 +184,10 @@ module _ (sizes : Super) where
               ))
             where
               here : P Reply
-              here = lowered machine (layer sizes) (handlers sizes) z.carry (Do next mark rest)
+              here = lowered (machine sizes.version) (layer sizes) (handlers sizes) z.carry (Do next mark rest)
 
               there : P (Option Reply)
-              there = bind (lowered whole_inodes (layer sizes) (handlers sizes) z.carry (Do next mark rest)) some
+              there = bind (lowered (whole_inodes sizes.version) (layer sizes) (handlers sizes) z.carry (Do next mark rest)) some
 
               now : Option UnderWay
               now = Some (begun_at sizes z.carry next mark rest)
@@ -195,18 +196,20 @@ module _ (sizes : Super) where
               starts = begins_on sizes inodes q.call q.done z.carry next mark rest
 
               here_on : IsAtEnd here → ⊥
-              here_on = bind_goes_on (handlers sizes z.carry next mark) (λ y. lowered machine (layer sizes) (handlers sizes) y.carry (rest y.answer)) starts
+              here_on =
+                  bind_goes_on (handlers sizes z.carry next mark) (λ y. lowered (machine sizes.version) (layer sizes) (handlers sizes) y.carry (rest y.answer)) starts
 
               there_on : IsAtEnd there → ⊥
               there_on =
-                  bind_goes_on (lowered whole_inodes (layer sizes) (handlers sizes) z.carry (Do next mark rest)) some
-                  (bind_goes_on (handlers sizes z.carry next mark) (λ y. lowered whole_inodes (layer sizes) (handlers sizes) y.carry (rest y.answer)) starts)
+                  bind_goes_on (lowered (whole_inodes sizes.version) (layer sizes) (handlers sizes) z.carry (Do next mark rest)) some
+                  (bind_goes_on (handlers sizes z.carry next mark)
+                  (λ y. lowered (whole_inodes sizes.version) (layer sizes) (handlers sizes) y.carry (rest y.answer)) starts)
 
           by_left : (left : P (Handover (above.Answer u.op) Carry)) → k b ≡ left → Goes_on (bind left after_this) (bind (bind left after_that) some)
           by_left (Ret z) e = by_rest z e (u.rest z.answer) refl
           by_left (Do lop lm lk) e = (
             changed under h now,
-            ran_so (went_on L h s r (op, b) (act_places machine h (m b) s.world.seen) (bind (Do lop lm lk) after_this) w) (changed under h now) refl (sym (ap (step_outcome sizes u (op, b)) e))
+            ran_so (went_on L h s r (op, b) (act_places (machine sizes.version) h (m b) s.world.seen) (bind (Do lop lm lk) after_this) w) (changed under h now) refl (sym (ap (step_outcome sizes u (op, b)) e))
                 (ap (λ (o : Option UnderWay). changed under h o) (sym (ap (gone_on sizes u acted (op, b)) e))),
             record {
               world = refl;

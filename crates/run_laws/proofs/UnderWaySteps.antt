@@ -1,5 +1,4 @@
 -- An event of a run of the calls on blocks, with what is under way in each hart's call: it goes on as its operations act.
-use Rattle.inode_machine.specs.VersionOne as one
 use Rattle.run_laws.proofs.Vocabulary.{◌≡◌, ℕ, Bool, true, false, Option, Some, None, List, [], ◌∷◌, refl, sym, ◌∙◌, ap, subst, inl, inr, Super, Reply, Call, Prog, Ret, Do, bind, ExecResult, Waits, Ran, Stops, Machine, own, own_one, onto, placed_with, Good, Grown, Wp, Theory, Began, Refuses, Begins, Begun, Ends, Lawful, Run, State, EventOf as Event, Start, Step, Made, WasIdle, WasStopped, WasRefused as Refused, begun, busy_in, is_called, changed, start_run, makes, next, tried, unchanged, asks, OfNext, HonestStep, IsHonest, act_places, Handover, lowered, Outside, AnswerBelow, HasInodes, Carry, handlers, layer, machine, Mark, program, nothing, block_calls, block_moves, lowered_inode_calls, whole_inodes, IsAtEnd, IsFaithful, IsOperation, Notes, AreOf, EventDoes, InFirst, LeadTo, UnderWay, at_beginning, none_ran, time_of}
 use Rattle.fs_machine.specs.Steps as steps
 use Rattle.inode_machine.specs.Kept as kept
@@ -41,7 +40,7 @@ module _ (sizes : Super) where
     record Heard (h : ℕ) (call : Call) (done : Notes (lowered_inode_calls sizes).M) (op : steps.Op) (m : AnswerBelow op → Option Acts) (b : AnswerBelow op) (v w : W) : Type 0 where
       before : Shows v.real.blocks v.seen
       after : Shows w.real.blocks w.seen
-      told : AreOf sizes call None (onto done (record { ran = (op, b); made = own h (act_places whole_inodes h (m b) v.seen) } ∷ []))
+      told : AreOf sizes call None (onto done (record { ran = (op, b); made = own h (act_places (whole_inodes sizes.version) h (m b) v.seen) } ∷ []))
 
     heard : (h : ℕ) (x : Outside) (t : State O) (q : Run O) (op : steps.Op) (m : AnswerBelow op → Option Acts) (k : AnswerBelow op → P (Option Reply)) (b : AnswerBelow op) (w : W) → explained.Keeps O base t → t.running h ≡ Some q → t.stopped ≡ false → q.prog ≡ Do op m k → IsHonest O (Step h x) t
         → O.M.go h x op m t.world ≡ Ran b w → Heard h q.call q.done op m b t.world w
@@ -57,13 +56,14 @@ module _ (sizes : Super) where
         record { before = inv.0.0; after = fine.inv.0.0; told = at (fine.begun tt) }
       where
         note : O.M.Step
-        note = record { ran = (op, b); made = own h (act_places whole_inodes h (m b) t.world.seen) }
+        note = record { ran = (op, b); made = own h (act_places (whole_inodes sizes.version) h (m b) t.world.seen) }
 
         at : Grown (Begun O q.call) (own h ((h, note) ∷ [])) q.done → AreOf sizes q.call None (onto q.done (note ∷ []))
         at (inl e) = absurd (none_is note [] (sym (own_one h note) ∙ e))
         at (inr e) =
             let n : Begun O q.call (note ∷ q.done) = subst (λ (zs : List O.M.Step). Begun O q.call (onto zs q.done)) (own_one h note) e in
-            faithful_shorter whole_inodes (layer sizes) (handlers sizes) IsOperation n.1 nothing (program q.call) (onto q.done (note ∷ [])) n.0 n.2
+            faithful_shorter (whole_inodes sizes.version) (layer sizes) (handlers sizes) IsOperation n.1 nothing (program sizes.version q.call)
+            (onto q.done (note ∷ [])) n.0 n.2
 
     -- ---- a step
 
@@ -83,10 +83,10 @@ module _ (sizes : Super) where
         by_step op m k e = by (L.M.go h x op m s.world) refl
           where
             here : Handover (above.Answer u.op) Carry → P Reply
-            here z = lowered machine (layer sizes) (handlers sizes) z.carry (u.rest z.answer)
+            here z = lowered (machine sizes.version) (layer sizes) (handlers sizes) z.carry (u.rest z.answer)
 
             there : Handover (above.Answer u.op) Carry → P Reply
-            there z = lowered whole_inodes (layer sizes) (handlers sizes) z.carry (u.rest z.answer)
+            there z = lowered (whole_inodes sizes.version) (layer sizes) (handlers sizes) z.carry (u.rest z.answer)
 
             some : Reply → P (Option Reply)
             some y = Ret (Some y)
@@ -98,7 +98,7 @@ module _ (sizes : Super) where
             asks_there = in_.also ∙ ap (λ (z : P (Handover (above.Answer u.op) Carry)). bind (bind z there) some) e
 
             came_there : (d : ExecResult (AnswerBelow op) W) → L.M.go h x op m s.world ≡ d → O.M.go h x op m s.world ≡ d
-            came_there d came = both_same h m s.world.seen ((layer sizes).exec h x op s.world.real) ∙ came
+            came_there d came = both_same sizes.version h m s.world.seen ((layer sizes).exec h x op s.world.real) ∙ came
 
             both_tried : (d : ExecResult (AnswerBelow op) W) → L.M.go h x op m s.world ≡ d
                 → Does (tried L h s r op (λ y. L.M.places h op y (m y) s.world) (λ y. bind (k y) here) d) (tried O h t q op (λ y. O.M.places h op y (m y) s.world) (λ y. bind (bind (k y) there) some) d)
@@ -108,8 +108,8 @@ module _ (sizes : Super) where
                 (tried_is L h s x r op m (λ y. bind (k y) here) s.world d a off asks_here refl came)
                 (tried_is O h t x q op m (λ y. bind (bind (k y) there) some) s.world d c (beside.stopped ∙ off) asks_there beside.world (came_there d came)) does
 
-            places : (d : ExecResult (AnswerBelow op) W) → L.M.go h x op m s.world ≡ d → one.placed (block_moves sizes) (Step h x) s ≡ kept.placed_tried (block_moves sizes) (λ y. act_places machine h (m y) s.world.seen) d
-            places d came = tried_places (block_moves sizes) h x s r op m (λ y. bind (k y) here) d a off asks_here came
+            places : (d : ExecResult (AnswerBelow op) W) → L.M.go h x op m s.world ≡ d → kept.placed sizes.version (block_moves sizes) (Step h x) s ≡ kept.placed_tried (block_moves sizes) (λ y. act_places (machine sizes.version) h (m y) s.world.seen) d
+            places d came = tried_places sizes.version (block_moves sizes) h x s r op m (λ y. bind (k y) here) d a off asks_here came
 
             at_first_step : time_of u.op ≡ InFirst → none_ran u.ran ≡ true → ActsAtOnce sizes h s.world (Do op m k)
             at_first_step i f =
@@ -133,13 +133,13 @@ module _ (sizes : Super) where
       by_call : (r : Option (Run (block_calls sizes))) (q : Option (Run (telling (lowered_inode_calls sizes) (AreOf sizes)))) (u : Option UnderWay) → s.running h ≡ r → t.running h ≡ q → under h ≡ u → InCalls sizes r q u → Does (makes L (Step h x) s) (makes O (Step h x) t)
       by_call None None None a c is in_ =
           both_are (makes L (Step h x) s) (record { came = WasIdle; after = unchanged L s }) (makes O (Step h x) t) (record { came = WasIdle; after = unchanged O t }) (idle_is L h s x a) (idle_is O h t x c)
-          (under, (refl, idle_places (block_moves sizes) h x s a), same_still)
+          (under, (refl, idle_places sizes.version (block_moves sizes) h x s a), same_still)
       by_call (Some r) (Some q) (Some u) a c is in_ = by s.stopped refl
         where
           by : (b : Bool) → s.stopped ≡ b → Does (makes L (Step h x) s) (makes O (Step h x) t)
           by true on =
               both_are (makes L (Step h x) s) (record { came = WasStopped; after = unchanged L s }) (makes O (Step h x) t) (record { came = WasStopped; after = unchanged O t }) (stopped_is L h s x r a on) (stopped_is O h t x q c (beside.stopped ∙ on))
-              (under, (refl, stopped_places (block_moves sizes) h x s r a on), same_still)
+              (under, (refl, stopped_places sizes.version (block_moves sizes) h x s r a on), same_still)
           by false off = by_left r q u a c is in_ off u.left refl
       by_call None None (Some u) a c is in_ = absurd in_
       by_call None (Some q) u a c is in_ = absurd in_
@@ -174,23 +174,25 @@ module _ (sizes : Super) where
           at (Some r) (Some q) None i = absurd i
 
       -- the call's program is at its first operation
-      call_begins : (p : Prog above.Op above.Answer Mark Reply) → program call ≡ p → (n n' : ℕ)
-          → InCalls sizes (Some (record { call = call; start = n; prog = lowered machine (layer sizes) (handlers sizes) nothing p; count = 0; done = [] }))
-          (Some (record { call = call; start = n'; prog = bind (lowered whole_inodes (layer sizes) (handlers sizes) nothing p) (λ a. Ret (Some a)); count = 0; done = [] })) (at_beginning sizes nothing p)
-      call_begins (Ret reply) e n n' = absurd (program_begins call (subst (λ (y : Prog above.Op above.Answer Mark Reply). IsAtEnd y) (sym e) tt))
+      call_begins : (p : Prog above.Op above.Answer Mark Reply) → program sizes.version call ≡ p → (n n' : ℕ)
+          → InCalls sizes
+          (Some (record { call = call; start = n; prog = lowered (machine sizes.version) (layer sizes) (handlers sizes) nothing p; count = 0; done = [] }))
+          (Some (record { call = call; start = n'; prog = bind (lowered (whole_inodes sizes.version) (layer sizes) (handlers sizes) nothing p) (λ a. Ret (Some a)); count = 0; done = [] })) (at_beginning sizes nothing p)
+      call_begins (Ret reply) e n n' = absurd (program_begins sizes.version call (subst (λ (y : Prog above.Op above.Answer Mark Reply). IsAtEnd y) (sym e) tt))
       call_begins (Do op m k) e n n' =
           begins_in sizes inodes call [] nothing op m k
-          (λ r rest z. subst (λ (y : Prog above.Op above.Answer Mark Reply). IsFaithful whole_inodes (layer sizes) (handlers sizes) IsOperation r nothing y rest) e z)
+          (λ r rest z. subst (λ (y : Prog above.Op above.Answer Mark Reply). IsFaithful (whole_inodes sizes.version) (layer sizes)
+          (handlers sizes) IsOperation r nothing y rest) e z)
 
       by_start : (d : Began L.Refusal W) → Did (begun L h call s d) (begun O h call t d)
       by_start (Refuses why) = (under, refl, still)
       by_start (Begins w) = (
-        changed under h (at_beginning sizes nothing (program call)),
+        changed under h (at_beginning sizes nothing (program sizes.version call)),
         refl,
         record {
           world = refl;
           stopped = beside.stopped;
-          calls = λ j. changed_beside sizes h s.running t.running under (Some _) (Some _) (at_beginning sizes nothing (program call)) (λ i ne. beside.calls i) (call_begins (program call) refl s.now t.now) j;
+          calls = λ j. changed_beside sizes h s.running t.running under (Some _) (Some _) (at_beginning sizes nothing (program sizes.version call)) (λ i ne. beside.calls i) (call_begins (program sizes.version call) refl s.now t.now) j;
         },
       )
 

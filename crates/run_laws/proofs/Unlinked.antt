@@ -1,8 +1,8 @@
 -- If no hart has a call, what has no links is open, or a current directory.
-use Rattle.run_laws.proofs.Vocabulary.{◌≡◌, inl, inr, ℕ, pos, ◌==◌, true, false, List, [], ◌∷◌, Option, sym, ◌∙◌, ap, subst, arith, nat_tests, Super, sizes_of, Theory, PlacedStep, fresh, run, Chain, Both, first_world, first, block_calls, WorldOf, Node}
+use Rattle.run_laws.proofs.Vocabulary.{◌≡◌, inl, inr, ℕ, pos, ◌==◌, true, false, List, [], ◌∷◌, Option, sym, ◌∙◌, ap, subst, arith, nat_tests, Super, sizes_of, Theory, PlacedStep, fresh, run, Chain, Both, first_world, first, block_calls, WorldOf, Node, Version}
 use Rattle.image_tree.specs.Inodes.{inode_of, is_live, is_node, is_positive}
 use Rattle.image_tree.specs.Trees.{count_of}
-use Rattle.image_tree.specs.VersionOne.{node_of}
+use Rattle.image_tree.specs.Images.{node_of}
 use Rattle.inode_machine.specs.Exec.{is_dead}
 use Rattle.calls_on_blocks.specs.Layer as layers
 use Rattle.inode_machine.specs.World.{World}
@@ -42,10 +42,10 @@ at_first disk n is = absurd (
 
 -- ---- along a run
 
-step_keeps : (t u : World) (h : ℕ) (e : Operation) → IsStep t h e u → DeadAreReferredTo t → DeadAreReferredTo u
-step_keeps t u h e s dead =
+step_keeps : (version : Version) (t u : World) (h : ℕ) (e : Operation) → IsStep version t h e u → DeadAreReferredTo t → DeadAreReferredTo u
+step_keeps version t u h e s dead =
     subst (λ (z : World). DeadAreReferredTo z) s.to
-    (dead_stay h s.outside e.op (λ _. e.mark) s.before s.after e.answer s.holds s.may s.goes
+    (dead_stay version h s.outside e.op (λ _. e.mark) s.before s.after e.answer s.holds s.may s.goes
     (subst (λ (z : World). DeadAreReferredTo z) (sym s.from) dead))
 
 module _ (sizes : Super) where
@@ -55,7 +55,7 @@ module _ (sizes : Super) where
   chain_keeps : (base t : World) (es : List (PlacedStep (lowered_inode_calls sizes))) → Chain L base es t → DeadAreReferredTo base
       → DeadAreReferredTo t
   chain_keeps base t [] c dead = subst (λ (z : World). DeadAreReferredTo z) (sym c) dead
-  chain_keeps base t (e ∷ es) c dead = chain_keeps c.0 t es c.2 (step_keeps base c.0 e.hart e.step c.1 dead)
+  chain_keeps base t (e ∷ es) c dead = chain_keeps c.0 t es c.2 (step_keeps sizes.version base c.0 e.hart e.step c.1 dead)
 
 -- ---- if no hart has a call
 

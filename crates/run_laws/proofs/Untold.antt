@@ -1,5 +1,5 @@
 -- An operation that reports no change leaves inodes that have a name, open files and what harts have of them.
-use Rattle.run_laws.proofs.Vocabulary.{◌≡◌, ◌≢◌, ◌⊎◌, inl, inr, ℕ, ◌==◌, Bool, true, false, nat_lt, if◌then◌else◌, List, [], ◌∷◌, take, Option, Some, None, refl, sym, ◌∙◌, ap, subst, append-nil, Cause, Node, OpenFile, has_room, lowest, node_or, write_kind, Name, Tree, all_slots, first_slot, is_live, live_directory, look, put, IsWellFormed, look_live, eq_is, put_is, put_other, put_same, ran_to, ExecResult, Waits, Ran, Stops, claim_if, claimed, close_at, close_if, double_at, double_if, down_if, entry_of, enter_if, exec, file_count, fill_if, first_from, has_place, install_if, is_empty_slot, is_full_directory, is_last, join_at, lend_if, lock_at, lock_if, locked, next_used, offset_of, place_count, read_at, read_refused, referenced, released, slot_at, slot_if, start_if, start_number, stat_at, unlocked, up_if, walk_down_if, write_at, write_if, write_refused, InodeType, face_of, face_or, seen_in, type_of, go, made_by, marked, mended, new_id, spoiled, with_left, with_made, with_mark, with_noted, with_opened, Answer, ClaimResult, Desk, Entry, LocksIt, Mark, New, NoPlace, Picks, Room, RoomFor, Inv, Fills, Frees, Makes, Mends, Orphans, Spoils, CheckFile, Claim, Clear, Double, Down, Empty, Enter, Fill, Forget, Free, UnlockInode, Install, Join, JoinFile, Leave, Lend, LendDirectory, LockFile, LockOpen, ReadFile, Release, Say, SetDirectory, Shut, Slot, StatFile, Store, Take, Up, UpStart, WalkDown, WriteFile, OwnMove as Own, Change, ChangesAreTold, Claimed, Cleared, Entered, Filled, Freed, GaveBack, HasNoName, TookPlace, by_count, by_free, changed_by}
+use Rattle.run_laws.proofs.Vocabulary.{◌≡◌, ◌≢◌, ◌⊎◌, inl, inr, ℕ, ◌==◌, Bool, true, false, nat_lt, if◌then◌else◌, List, [], ◌∷◌, take, Option, Some, None, refl, sym, ◌∙◌, ap, subst, append-nil, Cause, Node, OpenFile, has_room, lowest, node_or, write_kind, Name, Tree, all_slots, first_slot, is_live, live_directory, look, put, IsWellFormed, look_live, eq_is, put_is, put_other, put_same, ran_to, ExecResult, Waits, Ran, Stops, claim_if, claimed, close_at, close_if, double_at, double_if, down_if, entry_of, enter_if, exec, file_count, fill_if, first_from, has_place, install_if, is_empty_slot, is_full_directory, is_last, join_at, lend_if, lock_at, lock_if, locked, next_used, offset_of, place_count, read_at, read_refused, referenced, released, slot_at, slot_if, start_if, start_number, stat_at, unlocked, up_if, walk_down_if, write_at, write_if, write_refused, InodeType, face_of, face_or, seen_in, type_of, go, made_by, marked, mended, new_id, spoiled, with_left, with_made, with_mark, with_noted, with_opened, Answer, ClaimResult, Desk, Entry, LocksIt, Mark, New, NoPlace, Picks, Room, RoomFor, Inv, Fills, Frees, Makes, Mends, Orphans, Spoils, CheckFile, Claim, Clear, Double, Down, Empty, Enter, Fill, Forget, Free, UnlockInode, Install, Join, JoinFile, Leave, Lend, LendDirectory, LockFile, LockOpen, ReadFile, Release, Say, SetDirectory, Shut, Slot, StatFile, Store, Take, Up, UpStart, WalkDown, WriteFile, OwnMove as Own, Change, ChangesAreTold, Claimed, Cleared, Entered, Filled, Freed, GaveBack, HasNoName, TookPlace, by_count, by_free, changed_by, Version}
 use Rattle.inode_machine.specs.Exec.{with_record, write_in}
 use Rattle.inode_machine.specs.Marks.{Made}
 use Rattle.inode_machine.specs.World.{Op}
@@ -103,15 +103,15 @@ mended_kept h w =
     desks_kept w (put w.desks h d) (desk_put w.desks h d refl)
 
 -- a mark leaves all that
-pub marked_kept : (h : ℕ) (m : Option Mark) (w : World) → kept_of (marked h m w) ≡ kept_of w
-marked_kept h None w = refl
-marked_kept h (Some (Makes v)) w = made_kept h (made_by w.all h (new_id w) (w.harts h).walk v) w
-marked_kept h (Some (Frees n)) w = refl
-marked_kept h (Some (Orphans n)) w = refl
-marked_kept h (Some Fills) w = spoiled_kept h w
-marked_kept h (Some Mends) w = mended_kept h w
-marked_kept h (Some (Spoils s)) w =
-    let x : Made = made_by w.all h (new_id w) (w.harts h).walk (Own s 0) in
+pub marked_kept : (version : Version) (h : ℕ) (m : Option Mark) (w : World) → kept_of (marked version h m w) ≡ kept_of w
+marked_kept version h None w = refl
+marked_kept version h (Some (Makes v)) w = made_kept h (made_by version w.all h (new_id w) (w.harts h).walk v) w
+marked_kept version h (Some (Frees n)) w = refl
+marked_kept version h (Some (Orphans n)) w = refl
+marked_kept version h (Some Fills) w = spoiled_kept h w
+marked_kept version h (Some Mends) w = mended_kept h w
+marked_kept version h (Some (Spoils s)) w =
+    let x : Made = made_by version w.all h (new_id w) (w.harts h).walk (Own s 0) in
     spoiled_kept h (with_made h x w) ∙ made_kept h x w
 
 -- ---- operations
@@ -188,7 +188,7 @@ release_left w op h child = all_left w op (released w h child) (desks_kept w (pu
     both : (g : ℕ) → tables_of (put one child second g) ≡ tables_of (w.desks g)
     both g = desk_put one child second (sym (desk_put w.desks h first refl child)) g ∙ desk_put w.desks h first refl g
 
-module _ (m : Option Mark) where
+module _ (version : Version) (m : Option Mark) where
   abbrev told : (op : Op) → Answer op → List Change
   told op a = changed_by None op a m
 
@@ -224,10 +224,10 @@ module _ (m : Option Mark) where
   install_goes h w f inode_type (Some s) false = lies w (Install f inode_type) _ GaveBack []
   install_goes h w f inode_type (Some s) true = lies w (Install f inode_type) _ (Moved (Install f inode_type)) []
 
-  stat_goes : (h fd : ℕ) (w : World) (o : Option Entry) → Goes (told (StatFile fd)) (StatFile fd) w (stat_at h w o)
+  stat_goes : (h fd : ℕ) (w : World) (o : Option Entry) → Goes (told (StatFile fd)) (StatFile fd) w (stat_at version h w o)
   stat_goes h fd w None = λ _. all_left w (StatFile fd) w refl
   stat_goes h fd w (Some e) =
-      lock_goes (told (StatFile fd)) (StatFile fd) h e.file.number (Some (e.file.number, face_or (face_of (w.disk e.file.number)))) w
+      lock_goes (told (StatFile fd)) (StatFile fd) h e.file.number (Some (e.file.number, face_or (face_of version (w.disk e.file.number)))) w
       (w.lock e.file.number)
 
   file_goes : (h fd : ℕ) (w : World) (o : Option Entry) (c : Option Cause) → Goes (told (LockFile fd)) (LockFile fd) w (lock_at h w o c)
@@ -237,7 +237,7 @@ module _ (m : Option Mark) where
       lock_goes (told (LockFile fd)) (LockFile fd) h e.file.number (LocksIt e.file.number e.file.offset) w (w.lock e.file.number)
 
   read_goes : (w : World) (fd n offset count : ℕ) (s : Option ℕ) (o : Option Entry)
-      → Goes (told (ReadFile fd n offset count)) (ReadFile fd n offset count) w (read_at w n count s o)
+      → Goes (told (ReadFile fd n offset count)) (ReadFile fd n offset count) w (read_at version w n count s o)
   read_goes w fd n offset count s None = lies w (ReadFile fd n offset count) _ (Moved (ReadFile fd n offset count)) []
   read_goes w fd n offset count s (Some e) = lies w (ReadFile fd n offset count) _ (Moved (ReadFile fd n offset count)) []
 
@@ -260,9 +260,9 @@ module _ (m : Option Mark) where
     write_if_goes w s e x (Some c) = λ _. unlocked_left write n w (w.alone n)
     write_if_goes w s e x None = write_in_goes w s e x
 
-    write_goes : (w : World) (s : Option ℕ) (x : Outside) (o : Option Entry) → Goes (told write) write w (write_at w s n bytes x o)
+    write_goes : (w : World) (s : Option ℕ) (x : Outside) (o : Option Entry) → Goes (told write) write w (write_at version w s n bytes x o)
     write_goes w s x None = λ _. unlocked_left write n w (w.alone n)
-    write_goes w s x (Some e) = write_if_goes w s e x (write_kind (node_or (w.disk n)).kind e.file.offset bytes)
+    write_goes w s x (Some e) = write_if_goes w s e x (write_kind version (node_or (w.disk n)).kind e.file.offset bytes)
 
   double_if_goes : (h fd : ℕ) (w : World) (s : ℕ) (e : Entry) (b : Bool) → Goes (told (Double fd)) (Double fd) w (double_if h w s e b)
   double_if_goes h fd w s e true = lies w (Double fd) _ (Moved (Double fd)) []
@@ -286,8 +286,8 @@ module _ (m : Option Mark) where
   lend_goes h child from w None = lies w (Lend child from) _ (Moved (Lend child from)) []
   lend_goes h child from w (Some i) = lies w (Lend child from) _ (Moved (Lend child from)) []
 
-  exec_goes : (h : ℕ) (x : Outside) (op : Op) (w : World) → Goes (told op) op w (exec h x op w)
-  exec_goes h x (Take n looking) w = lock_goes (told (Take n looking)) (Take n looking) h n (seen_in n looking (w.disk n)) w (w.lock n)
+  exec_goes : (h : ℕ) (x : Outside) (op : Op) (w : World) → Goes (told op) op w (exec version h x op w)
+  exec_goes h x (Take n looking) w = lock_goes (told (Take n looking)) (Take n looking) h n (seen_in version n looking (w.disk n)) w (w.lock n)
   exec_goes h x (UnlockInode n) w = λ _. unlocked_left (UnlockInode n) n w (w.alone n)
   exec_goes h x (UpStart absolute) w =
       start_goes (told (UpStart absolute)) (UpStart absolute) h (start_number (w.desks h) absolute) w
@@ -300,7 +300,7 @@ module _ (m : Option Mark) where
   exec_goes h x (Claim inode_type) w = claim_goes h inode_type w x
   exec_goes h x (Store n count) w = lies w (Store n count) _ (by_count None n count m) []
   exec_goes h x (Fill n d) w = fill_goes n d w x
-  exec_goes h x (Enter d e n) w = enter_goes d e n w x (is_full_directory (w.disk d))
+  exec_goes h x (Enter d e n) w = enter_goes d e n w x (is_full_directory version (w.disk d))
   exec_goes h x (Clear d e) w = lies w (Clear d e) _ (Cleared d e) []
   exec_goes h x (Empty n) w = lies w (Empty n) _ (Emptied n) []
   exec_goes h x Slot w = slot_goes h w (first_from file_count 0 (is_empty_slot w))
@@ -329,19 +329,19 @@ answer_or a Waits = a
 answer_or a (Ran b w) = b
 answer_or a (Stops w) = a
 
-no_wait : {A : Type 0} (h : ℕ) (m : Option Mark) (a : A) (u : World) → with_mark h (λ (z : A). m) Waits ≡ Ran a u → ⊥
-no_wait h m a u e = cc
+no_wait : (version : Version) {A : Type 0} (h : ℕ) (m : Option Mark) (a : A) (u : World) → with_mark version h (λ (z : A). m) Waits ≡ Ran a u → ⊥
+no_wait version h m a u e = cc
 
-no_stop : {A : Type 0} (h : ℕ) (m : Option Mark) (a : A) (u v : World) → with_mark h (λ (z : A). m) (Stops v) ≡ Ran a u → ⊥
-no_stop h m a u v e = cc
+no_stop : (version : Version) {A : Type 0} (h : ℕ) (m : Option Mark) (a : A) (u v : World) → with_mark version h (λ (z : A). m) (Stops v) ≡ Ran a u → ⊥
+no_stop version h m a u v e = cc
 
-ran_left : {A : Type 0} (told : A → List Change) (op : Op) (h : ℕ) (m : Option Mark) (w u : World) (a : A) (d : ExecResult A World)
-    → Goes told op w d → with_mark h (λ (z : A). m) d ≡ Ran a u → told a ≡ [] → LeavesBut w op u
-ran_left told op h m w u a Waits g e none = absurd (no_wait h m a u e)
-ran_left told op h m w u a (Stops v) g e none = absurd (no_stop h m a u v e)
-ran_left {A} told op h m w u a (Ran b v) g e none =
+ran_left : (version : Version) {A : Type 0} (told : A → List Change) (op : Op) (h : ℕ) (m : Option Mark) (w u : World) (a : A) (d : ExecResult A World)
+    → Goes told op w d → with_mark version h (λ (z : A). m) d ≡ Ran a u → told a ≡ [] → LeavesBut w op u
+ran_left version told op h m w u a Waits g e none = absurd (no_wait version h m a u e)
+ran_left version told op h m w u a (Stops v) g e none = absurd (no_stop version h m a u v e)
+ran_left version {A} told op h m w u a (Ran b v) g e none =
     let there : told b ≡ [] = ap (λ (d : ExecResult A World). told (answer_or a d)) e ∙ none in
-    left_between w w op v u refl (g there) (ap (λ (d : ExecResult A World). kept_of (ran_to w d)) (sym e) ∙ marked_kept h m v)
+    left_between w w op v u refl (g there) (ap (λ (d : ExecResult A World). kept_of (ran_to w d)) (sym e) ∙ marked_kept version h m v)
 
 -- ---- what is freed
 
@@ -361,15 +361,15 @@ nameless w all n well gone d e other found =
     let none : all.nodes n ≡ None = ap (λ (f : ℕ → Option Node). f n) gone ∙ put_same w.all.nodes n None in
     never_so (ap (λ (v : Option Node). is_live v) (sym none) ∙ live)
 
-free_nameless : (h : ℕ) (x : Outside) (n : ℕ) (m : Option Mark) (w u : World) → Inv u → (a : Unit {0})
-    → go h x (Free n) (λ _. m) w ≡ Ran a u → by_free n m ≡ [] → HasNoName w n
-free_nameless h x n None w u inv a ran none = absurd (some_told (Freed n) [] none)
-free_nameless h x n (Some (Makes v)) w u inv a ran none = absurd (some_told (Freed n) [] none)
-free_nameless h x n (Some (Orphans k)) w u inv a ran none = absurd (some_told (Freed n) [] none)
-free_nameless h x n (Some Fills) w u inv a ran none = absurd (some_told (Freed n) [] none)
-free_nameless h x n (Some Mends) w u inv a ran none = absurd (some_told (Freed n) [] none)
-free_nameless h x n (Some (Spoils s)) w u inv a ran none = absurd (some_told (Freed n) [] none)
-free_nameless h x n (Some (Frees k)) w u inv a ran none = by (k == n) refl none
+free_nameless : (version : Version) (h : ℕ) (x : Outside) (n : ℕ) (m : Option Mark) (w u : World) → Inv u → (a : Unit {0})
+    → go version h x (Free n) (λ _. m) w ≡ Ran a u → by_free n m ≡ [] → HasNoName w n
+free_nameless version h x n None w u inv a ran none = absurd (some_told (Freed n) [] none)
+free_nameless version h x n (Some (Makes v)) w u inv a ran none = absurd (some_told (Freed n) [] none)
+free_nameless version h x n (Some (Orphans k)) w u inv a ran none = absurd (some_told (Freed n) [] none)
+free_nameless version h x n (Some Fills) w u inv a ran none = absurd (some_told (Freed n) [] none)
+free_nameless version h x n (Some Mends) w u inv a ran none = absurd (some_told (Freed n) [] none)
+free_nameless version h x n (Some (Spoils s)) w u inv a ran none = absurd (some_told (Freed n) [] none)
+free_nameless version h x n (Some (Frees k)) w u inv a ran none = by (k == n) refl none
   where
     goes : u.all.nodes ≡ put w.all.nodes k None
     goes = ap (λ (d : ExecResult (Unit {0}) World). (ran_to w d).all.nodes) (sym ran)
@@ -378,14 +378,14 @@ free_nameless h x n (Some (Frees k)) w u inv a ran none = by (k == n) refl none
     by true same none = nameless w u.all n inv.well (goes ∙ ap (λ (z : ℕ). put w.all.nodes z None) (eq_is k n same))
     by false other none = absurd (some_told (Freed n) [] none)
 
-freed_nameless : (h : ℕ) (x : Outside) (op : Op) (a : Answer op) (m : Option Mark) (w u : World) → Inv u → go h x op (λ _. m) w ≡ Ran a u
+freed_nameless : (version : Version) (h : ℕ) (x : Outside) (op : Op) (a : Answer op) (m : Option Mark) (w u : World) → Inv u → go version h x op (λ _. m) w ≡ Ran a u
     → changed_by None op a m ≡ [] → (n : ℕ) → op ≡ Free n → HasNoName w n
-freed_nameless h x op a m w u inv ran none n is =
-    subst (λ (z : Op). (b : Answer z) → go h x z (λ _. m) w ≡ Ran b u → changed_by None z b m ≡ [] → HasNoName w n) (sym is)
-    (λ b. free_nameless h x n m w u inv b) a ran none
+freed_nameless version h x op a m w u inv ran none n is =
+    subst (λ (z : Op). (b : Answer z) → go version h x z (λ _. m) w ≡ Ran b u → changed_by None z b m ≡ [] → HasNoName w n) (sym is)
+    (λ b. free_nameless version h x n m w u inv b) a ran none
 
 pub untold : ChangesAreTold
-untold t u h e s untold_by = record {
+untold version t u h e s untold_by = record {
   inodes = λ n. at n (left.inodes n);
   files = left.files;
   descriptors = left.descriptors;
@@ -399,11 +399,11 @@ untold t u h e s untold_by = record {
     left : LeavesBut t e.op u
     left =
         left_between t s.before e.op s.after u (ap (λ (z : World). kept_of z) s.from)
-        (ran_left (λ a. changed_by None e.op a e.mark) e.op h e.mark s.before s.after e.answer (exec h s.outside e.op s.before)
-        (exec_goes e.mark h s.outside e.op s.before) s.goes none)
+        (ran_left version (λ a. changed_by None e.op a e.mark) e.op h e.mark s.before s.after e.answer (exec version h s.outside e.op s.before)
+        (exec_goes version e.mark h s.outside e.op s.before) s.goes none)
         (ap (λ (z : World). kept_of z) (sym s.to))
 
     at : (n : ℕ) → (u.disk n ≡ t.disk n) ⊎ (e.op ≡ Free n) → (u.disk n ≡ t.disk n) ⊎ HasNoName t n
     at n (inl same) = inl same
     at n (inr is) = inr (subst (λ (z : World). HasNoName z n) s.from
-        (freed_nameless h s.outside e.op e.answer e.mark s.before s.after s.keeps s.goes none n is))
+        (freed_nameless version h s.outside e.op e.answer e.mark s.before s.after s.keeps s.goes none n is))

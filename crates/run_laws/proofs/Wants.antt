@@ -1,5 +1,5 @@
 -- What an operation on whole inodes wants and doesn't find, the world doesn't have in which it is made.
-use Rattle.run_laws.proofs.Vocabulary.{◌≡◌, ◌≢◌, inl, inr, ◌<◌, ◌≤◌, ◌+◌, ℕ, zero, suc, ◌==◌, Bool, true, false, ◌&&◌, ◌||◌, not, nat_lt, if◌then◌else◌, List, [], ◌∷◌, length, Option, Some, None, IsSome, refl, sym, ◌∙◌, ap, subst, arith, All, nat_tests, All-cons, All-nil, Cause, Full, DirectorySlot, OpenFile, has_room, lowest, lowest_from, node_or, write_kind, Name, all_slots, any_below, descriptor_count, hart_count, and_true, eq_is, or_none, same_or, PlacedStep, Chain, ExecResult, Ran, Stops, Waits, Super, Blocks, Descriptors, Directory, DiskInodes, MemInodes, OpenFiles, sizes_of, WorldOf, all_used, claim_if, claimed, double_at, double_if, enter_if, entry_of, exec, file_count, fill_if, first_from, has_place, install_if, is_at, is_empty_slot, is_full_directory, is_nothing, place_count, referenced, slot_at, slot_if, slot_limit, start_if, start_number, up_if, write_at, write_if, InodeType, with_mark, Honest, HonestClaim, May, Answer, Entry, Mark, New, NoPlace, Picks, Room, RoomFor, Take, UnlockInode, UpStart, Up, WalkDown, Down, Free, Forget, Claim, Store, Fill, Enter, Clear, Empty, Slot, Install, StatFile, LockFile, ReadFile, CheckFile, JoinFile, LockOpen, WriteFile, Double, Shut, SetDirectory, Lend, LendDirectory, Release, Join, Leave, Say, first_some, AllDescriptorsAreTaken, AllOpenFilesAreTaken, AllPlacesAreTaken, HasNone, IsFullDirectory, IsTaken, LeadsThroughWants, NoRoomOnlyWhereThereIsNone, WantsWhatIsnt, wanted, IsStep, Operation, lowered_inode_calls, unreserved}
+use Rattle.run_laws.proofs.Vocabulary.{◌≡◌, ◌≢◌, inl, inr, ◌<◌, ◌≤◌, ◌+◌, ℕ, zero, suc, ◌==◌, Bool, true, false, ◌&&◌, ◌||◌, not, nat_lt, if◌then◌else◌, List, [], ◌∷◌, length, Option, Some, None, IsSome, refl, sym, ◌∙◌, ap, subst, arith, All, nat_tests, All-cons, All-nil, Cause, Full, DirectorySlot, OpenFile, has_room, lowest, lowest_from, node_or, write_kind, Name, all_slots, any_below, descriptor_count, hart_count, and_true, eq_is, or_none, same_or, PlacedStep, Chain, ExecResult, Ran, Stops, Waits, Super, Blocks, Descriptors, Directory, DiskInodes, MemInodes, OpenFiles, sizes_of, WorldOf, all_used, claim_if, claimed, double_at, double_if, enter_if, entry_of, exec, file_count, fill_if, first_from, has_place, install_if, is_at, is_empty_slot, is_full_directory, is_nothing, place_count, referenced, slot_at, slot_if, slot_limit, start_if, start_number, up_if, write_at, write_if, InodeType, with_mark, Honest, HonestClaim, May, Answer, Entry, Mark, New, NoPlace, Picks, Room, RoomFor, Take, UnlockInode, UpStart, Up, WalkDown, Down, Free, Forget, Claim, Store, Fill, Enter, Clear, Empty, Slot, Install, StatFile, LockFile, ReadFile, CheckFile, JoinFile, LockOpen, WriteFile, Double, Shut, SetDirectory, Lend, LendDirectory, Release, Join, Leave, Say, first_some, AllDescriptorsAreTaken, AllOpenFilesAreTaken, AllPlacesAreTaken, HasNone, IsFullDirectory, IsTaken, LeadsThroughWants, NoRoomOnlyWhereThereIsNone, WantsWhatIsnt, wanted, IsStep, Operation, lowered_inode_calls, unreserved, Version}
 use Rattle.inode_machine.specs.Exec.{enter_in}
 use Rattle.inode_machine.specs.Exec.{write_in}
 use Rattle.inode_machine.specs.World.{Op, Outside, World}
@@ -74,10 +74,10 @@ each_used [] e = All-nil IsSome
 each_used (None ∷ ss) e = absurd (let q : false ≡ true = e in cc)
 each_used (Some s ∷ ss) e = All-cons IsSome (Some s) ss refl (each_used ss e)
 
-directory_full : (w : World) (d : ℕ) → is_full_directory (w.disk d) ≡ true → IsFullDirectory (w.disk d)
-directory_full w d e =
-    let two = and_true (length (all_slots (w.disk d)) == slot_limit) (all_used (all_slots (w.disk d))) e in
-    (eq_is (length (all_slots (w.disk d))) slot_limit two.0, each_used (all_slots (w.disk d)) two.1)
+directory_full : (version : Version) (w : World) (d : ℕ) → is_full_directory version (w.disk d) ≡ true → IsFullDirectory version (w.disk d)
+directory_full version w d e =
+    let two = and_true (length (all_slots (w.disk d)) == slot_limit version) (all_used (all_slots (w.disk d))) e in
+    (eq_is (length (all_slots (w.disk d))) (slot_limit version) two.0, each_used (all_slots (w.disk d)) two.1)
 
 -- ---- one operation
 
@@ -93,12 +93,12 @@ quiet P Waits = tt
 quiet P (Ran a u) = λ room e. absurd cc
 quiet P (Stops u) = tt
 
-module _ (h : ℕ) (w : World) where
+module _ (version : Version) (h : ℕ) (w : World) where
   abbrev Says : (op : Op) → ExecResult (Answer op) World → Type 0
-  Says op d = Tells {A = Answer op} (λ a. (room : Full) → wanted op a ≡ Some room → HasNone w h op room) d
+  Says op d = Tells {A = Answer op} (λ a. (room : Full) → wanted op a ≡ Some room → HasNone version w h op room) d
 
-  one_room : (op : Op) (room : Full) → HasNone w h op room → (other : Full) → Some room ≡ Some other → HasNone w h op other
-  one_room op room there other e = subst (HasNone w h op) (let q : room ≡ other = cc in q) there
+  one_room : (op : Op) (room : Full) → HasNone version w h op room → (other : Full) → Some room ≡ Some other → HasNone version w h op other
+  one_room op room there other e = subst (HasNone version w h op) (let q : room ≡ other = cc in q) there
 
   start_says : (absolute : Bool) (n : ℕ) (b : Bool) → has_place w n ≡ b → Says (UpStart absolute) (start_if h n w b)
   start_says absolute n true e = λ room q. absurd cc
@@ -128,9 +128,9 @@ module _ (h : ℕ) (w : World) where
   enter_in_says d e n (RoomFor k) = one_room (Enter d e n) Blocks tt
   enter_in_says d e n (Picks k) = one_room (Enter d e n) Blocks tt
 
-  enter_says : (d : ℕ) (e : Name) (n : ℕ) (x : Outside) (b : Bool) → is_full_directory (w.disk d) ≡ b
+  enter_says : (d : ℕ) (e : Name) (n : ℕ) (x : Outside) (b : Bool) → is_full_directory version (w.disk d) ≡ b
       → Says (Enter d e n) (enter_if d e n w x b)
-  enter_says d e n x true full = one_room (Enter d e n) Directory (directory_full w d full)
+  enter_says d e n x true full = one_room (Enter d e n) Directory (directory_full version w d full)
   enter_says d e n x false full = enter_in_says d e n x
 
   slot_says : (o : Option ℕ) → first_from file_count 0 (is_empty_slot w) ≡ o → Says Slot (slot_if h w o)
@@ -163,78 +163,78 @@ module _ (h : ℕ) (w : World) where
     write_if_says k e x (Some c) = λ room q. absurd cc
     write_if_says k e x None = write_in_says k e x
 
-    write_says : (k : Option ℕ) (x : Outside) (e : Option Entry) → Says (WriteFile fd n offset bytes) (write_at w k n bytes x e)
+    write_says : (k : Option ℕ) (x : Outside) (e : Option Entry) → Says (WriteFile fd n offset bytes) (write_at version w k n bytes x e)
     write_says k x None = λ room q. absurd cc
-    write_says k x (Some e) = write_if_says k e x (write_kind (node_or (w.disk n)).kind e.file.offset bytes)
+    write_says k x (Some e) = write_if_says k e x (write_kind version (node_or (w.disk n)).kind e.file.offset bytes)
 
   quiet_one : (op : Op) (d : ExecResult (Answer op) World)
-      → Tells (λ a. (room : Full) → ◌≡◌ {A = Option Full} None (Some room) → HasNone w h op room) d
-  quiet_one op d = quiet (HasNone w h op) d
+      → Tells (λ a. (room : Full) → ◌≡◌ {A = Option Full} None (Some room) → HasNone version w h op room) d
+  quiet_one op d = quiet (HasNone version w h op) d
 
-  says : (x : Outside) (op : Op) → May h op w → Honest h op w x → Says op (exec h x op w)
+  says : (x : Outside) (op : Op) → May version h op w → Honest h op w x → Says op (exec version h x op w)
   says x (UpStart absolute) may honest =
       start_says absolute (start_number (w.desks h) absolute) (has_place w (start_number (w.desks h) absolute)) refl
   says x (Up n) may honest = up_says n (has_place w n) refl
   says x (Claim inode_type) may honest = claim_says inode_type x honest
   says x (Fill n d) may honest = fill_says n d x
-  says x (Enter d e n) may honest = enter_says d e n x (is_full_directory (w.disk d)) refl
+  says x (Enter d e n) may honest = enter_says d e n x (is_full_directory version (w.disk d)) refl
   says x Slot may honest = slot_says (first_from file_count 0 (is_empty_slot w)) refl
   says x (Install f inode_type) may honest = install_says f inode_type (w.desks h).hand may.1.0 (has_room (w.desks h).fds) refl
   says x (WriteFile fd n offset bytes) may honest = write_says fd n offset bytes (slot_at w h fd) x (entry_of w h fd)
   says x (Double fd) may honest = double_says fd (slot_at w h fd) (entry_of w h fd)
-  says x (Take n looking) may honest = quiet_one (Take n looking) (exec h x (Take n looking) w)
-  says x (UnlockInode n) may honest = quiet_one (UnlockInode n) (exec h x (UnlockInode n) w)
-  says x (WalkDown n) may honest = quiet_one (WalkDown n) (exec h x (WalkDown n) w)
-  says x (Down n) may honest = quiet_one (Down n) (exec h x (Down n) w)
-  says x (Free n) may honest = quiet_one (Free n) (exec h x (Free n) w)
-  says x (Forget n) may honest = quiet_one (Forget n) (exec h x (Forget n) w)
-  says x (Store n count) may honest = quiet_one (Store n count) (exec h x (Store n count) w)
-  says x (Clear d e) may honest = quiet_one (Clear d e) (exec h x (Clear d e) w)
-  says x (Empty n) may honest = quiet_one (Empty n) (exec h x (Empty n) w)
-  says x (StatFile fd) may honest = quiet_one (StatFile fd) (exec h x (StatFile fd) w)
-  says x (LockFile fd) may honest = quiet_one (LockFile fd) (exec h x (LockFile fd) w)
-  says x (ReadFile fd n offset count) may honest = quiet_one (ReadFile fd n offset count) (exec h x (ReadFile fd n offset count) w)
-  says x (CheckFile fd) may honest = quiet_one (CheckFile fd) (exec h x (CheckFile fd) w)
-  says x (JoinFile fd) may honest = quiet_one (JoinFile fd) (exec h x (JoinFile fd) w)
-  says x (LockOpen fd n) may honest = quiet_one (LockOpen fd n) (exec h x (LockOpen fd n) w)
-  says x (Shut fd) may honest = quiet_one (Shut fd) (exec h x (Shut fd) w)
-  says x (SetDirectory n) may honest = quiet_one (SetDirectory n) (exec h x (SetDirectory n) w)
-  says x (Lend child from) may honest = quiet_one (Lend child from) (exec h x (Lend child from) w)
-  says x (LendDirectory child) may honest = quiet_one (LendDirectory child) (exec h x (LendDirectory child) w)
-  says x (Release child) may honest = quiet_one (Release child) (exec h x (Release child) w)
-  says x Join may honest = quiet_one Join (exec h x Join w)
-  says x Leave may honest = quiet_one Leave (exec h x Leave w)
-  says x Say may honest = quiet_one Say (exec h x Say w)
+  says x (Take n looking) may honest = quiet_one (Take n looking) (exec version h x (Take n looking) w)
+  says x (UnlockInode n) may honest = quiet_one (UnlockInode n) (exec version h x (UnlockInode n) w)
+  says x (WalkDown n) may honest = quiet_one (WalkDown n) (exec version h x (WalkDown n) w)
+  says x (Down n) may honest = quiet_one (Down n) (exec version h x (Down n) w)
+  says x (Free n) may honest = quiet_one (Free n) (exec version h x (Free n) w)
+  says x (Forget n) may honest = quiet_one (Forget n) (exec version h x (Forget n) w)
+  says x (Store n count) may honest = quiet_one (Store n count) (exec version h x (Store n count) w)
+  says x (Clear d e) may honest = quiet_one (Clear d e) (exec version h x (Clear d e) w)
+  says x (Empty n) may honest = quiet_one (Empty n) (exec version h x (Empty n) w)
+  says x (StatFile fd) may honest = quiet_one (StatFile fd) (exec version h x (StatFile fd) w)
+  says x (LockFile fd) may honest = quiet_one (LockFile fd) (exec version h x (LockFile fd) w)
+  says x (ReadFile fd n offset count) may honest = quiet_one (ReadFile fd n offset count) (exec version h x (ReadFile fd n offset count) w)
+  says x (CheckFile fd) may honest = quiet_one (CheckFile fd) (exec version h x (CheckFile fd) w)
+  says x (JoinFile fd) may honest = quiet_one (JoinFile fd) (exec version h x (JoinFile fd) w)
+  says x (LockOpen fd n) may honest = quiet_one (LockOpen fd n) (exec version h x (LockOpen fd n) w)
+  says x (Shut fd) may honest = quiet_one (Shut fd) (exec version h x (Shut fd) w)
+  says x (SetDirectory n) may honest = quiet_one (SetDirectory n) (exec version h x (SetDirectory n) w)
+  says x (Lend child from) may honest = quiet_one (Lend child from) (exec version h x (Lend child from) w)
+  says x (LendDirectory child) may honest = quiet_one (LendDirectory child) (exec version h x (LendDirectory child) w)
+  says x (Release child) may honest = quiet_one (Release child) (exec version h x (Release child) w)
+  says x Join may honest = quiet_one Join (exec version h x Join w)
+  says x Leave may honest = quiet_one Leave (exec version h x Leave w)
+  says x Say may honest = quiet_one Say (exec version h x Say w)
 
-ran_says : (h : ℕ) (w after : World) (op : Op) (a : Answer op) (k : Option Mark) (d : ExecResult (Answer op) World) → Says h w op d
-    → with_mark h (λ _. k) d ≡ Ran a after → (room : Full) → wanted op a ≡ Some room → HasNone w h op room
-ran_says h w after op a k Waits says e = absurd cc
-ran_says h w after op a k (Stops u) says e = absurd cc
-ran_says h w after op a k (Ran b u) says e =
-    subst (λ (z : Answer op). (room : Full) → wanted op z ≡ Some room → HasNone w h op room) (let q : b ≡ a = cc in q) says
+ran_says : (version : Version) (h : ℕ) (w after : World) (op : Op) (a : Answer op) (k : Option Mark) (d : ExecResult (Answer op) World) → Says version h w op d
+    → with_mark version h (λ _. k) d ≡ Ran a after → (room : Full) → wanted op a ≡ Some room → HasNone version w h op room
+ran_says version h w after op a k Waits says e = absurd cc
+ran_says version h w after op a k (Stops u) says e = absurd cc
+ran_says version h w after op a k (Ran b u) says e =
+    subst (λ (z : Answer op). (room : Full) → wanted op z ≡ Some room → HasNone version w h op room) (let q : b ≡ a = cc in q) says
 
 -- ---- in a run
 
 -- what starts reserve is no room
-same_none : (h : ℕ) (w : World) (op : Op) (room : Full) → HasNone w h op room → HasNone (unreserved w) h op room
-same_none h w op MemInodes none = none
-same_none h w op OpenFiles none = none
-same_none h w op Descriptors none = none
-same_none h w op Blocks none = none
-same_none h w op DiskInodes none = none
-same_none h w op Directory none = none
+same_none : (version : Version) (h : ℕ) (w : World) (op : Op) (room : Full) → HasNone version w h op room → HasNone version (unreserved w) h op room
+same_none version h w op MemInodes none = none
+same_none version h w op OpenFiles none = none
+same_none version h w op Descriptors none = none
+same_none version h w op Blocks none = none
+same_none version h w op DiskInodes none = none
+same_none version h w op Directory none = none
 
-pub step_wants : (t u : World) (h : ℕ) (e : Operation) → IsStep t h e u → WantsWhatIsnt t h e
-step_wants t u h e s room q =
-    let all = says h s.before s.outside e.op s.may s.honest in
-    let there = ran_says h s.before s.after e.op e.answer e.mark (exec h s.outside e.op s.before) all s.goes room q in
-    subst (λ (z : World). HasNone z h e.op room) s.from (same_none h s.before e.op room there)
+pub step_wants : (version : Version) (t u : World) (h : ℕ) (e : Operation) → IsStep version t h e u → WantsWhatIsnt version t h e
+step_wants version t u h e s room q =
+    let all = says version h s.before s.outside e.op s.may s.honest in
+    let there = ran_says version h s.before s.after e.op e.answer e.mark (exec version h s.outside e.op s.before) all s.goes room q in
+    subst (λ (z : World). HasNone version z h e.op room) s.from (same_none version h s.before e.op room there)
 
 module _ (sizes : Super) where
   chain_wants : (es : List (PlacedStep (lowered_inode_calls sizes))) (t u : World)
       → Chain (lowered_inode_calls sizes) t es u → LeadsThroughWants sizes t es u
   chain_wants [] t u c = c
-  chain_wants (e ∷ es) t u c = (c.0, c.1, step_wants t c.0 e.hart e.step c.1, chain_wants es c.0 u c.2)
+  chain_wants (e ∷ es) t u c = (c.0, c.1, step_wants sizes.version t c.0 e.hart e.step c.1, chain_wants es c.0 u c.2)
 
 pub none_there : {D : Type 0} (contents : D → List (List ℕ)) (failures : D → ℕ) (w : WorldOf D)
     → NoRoomOnlyWhereThereIsNone contents failures w

@@ -1,7 +1,6 @@
 -- A call's program ends for want of a room only if one of its operations wanted it, or a claim gave it an inode that
 -- it had locked. And each name that it enters fits.
-use Rattle.image_versions.specs.declared.version.Version.TheVariants.{One}
-use Rattle.run_laws.proofs.Vocabulary.{◌≡◌, ◌≢◌, ◌⊎◌, inl, inr, ℕ, List, [], Option, Some, None, refl, ap, subst, Change, Full, Blocks, Descriptors, Directory, DiskInodes, MemInodes, OpenFiles, Reply, Call, Ret, Do, P, program, Answer, Mark, New, Claim, Enter, NameFits, wanted}
+use Rattle.run_laws.proofs.Vocabulary.{◌≡◌, ◌≢◌, ◌⊎◌, inl, inr, ℕ, List, [], Option, Some, None, refl, ap, subst, Change, Full, Blocks, Descriptors, Directory, DiskInodes, MemInodes, OpenFiles, Reply, Call, Ret, Do, P, program, Answer, Mark, New, Claim, Enter, NameFits, wanted, Version}
 use Rattle.plain_tree.specs.declared.answer.Answer.{Answer as ReplyAnswer}
 use Rattle.plain_tree.specs.declared.answer.Answer.TheVariants as answers
 use Rattle.inode_machine.specs.World.{Op}
@@ -49,7 +48,7 @@ same_kind Directory Blocks = inr (λ e. (let z : Directory ≡ Blocks = e in cc)
 same_kind Directory DiskInodes = inr (λ e. (let z : Directory ≡ DiskInodes = e in cc))
 same_kind Directory Directory = inl refl
 
-module _ (room : Full) where
+module _ (version : Version) (room : Full) where
   abbrev Not : Reply → Type 0
   Not r = r.answer ≢ answers.Full room
 
@@ -61,7 +60,7 @@ module _ (room : Full) where
   -- whatever else its operations answer, it ends for want of this room only if one of them wanted it
   abbrev pub Blames : P Reply → Type 0
   Blames (Ret r) = Not r
-  Blames (Do op m k) = NameFits op × ((a : Answer op) → (wanted op a ≡ Some room) ⊎ Goes op a (k a) (Blames (k a)))
+  Blames (Do op m k) = NameFits version op × ((a : Answer op) → (wanted op a ≡ Some room) ⊎ Goes op a (k a) (Blames (k a)))
 
   pub goes_or : (op : Op) (a : Answer op) (p : P Reply) (does : Type 0) → Goes op a p does
       → ((room ≡ MemInodes) × (n : ℕ) × GivesBack n p × (a ≢ some_answer op)) ⊎ does
@@ -91,7 +90,7 @@ module _ (room : Full) where
     not_so (Lacks kind) cs answer is ne e = (let so : Because call (Lacks kind) cs (answers.Full room) = subst (λ z. Because call (Lacks kind) cs z) e is in ne so.0)
     not_so Excused cs answer is ne e = ne (subst (λ z. Because call Excused cs z) e is)
 
-    fits : (s : Before) (op : Op) (m : Answer op → Option Mark) (k : Answer op → P Reply) → May One call s op m k → NameFits op
+    fits : (s : Before) (op : Op) (m : Answer op → Option Mark) (k : Answer op → P Reply) → May version call s op m k → NameFits version op
     fits s (Enter d name n) m k may = may.0
     fits s op m k may = tt
 
@@ -104,15 +103,15 @@ module _ (room : Full) where
     own n p Excused ne (inl back) (inr other) later = inr (later ne)
     own n p w ne (inr none) same later = inr (later ne)
 
-    goes : (s : Before) (op : Op) (m : Answer op → Option Mark) (k : Answer op → P Reply) (is : Asks One call s op m k) (a : Answer op) → Spares s.wants
-        → (Spares (wants_after One call s op m k is a) → Blames (k a)) → (wanted op a ≡ Some room) ⊎ Goes op a (k a) (Blames (k a))
+    goes : (s : Before) (op : Op) (m : Answer op → Option Mark) (k : Answer op → P Reply) (is : Asks version call s op m k) (a : Answer op) → Spares s.wants
+        → (Spares (wants_after version call s op m k is a) → Blames (k a)) → (wanted op a ≡ Some room) ⊎ Goes op a (k a) (Blames (k a))
     goes s (Claim inode_type) m k is (New n) ne later = inr (own n (k (New n)) s.wants ne (is.1.2 n) (same_kind room MemInodes) later)
     goes s (Claim inode_type) m k is a ne later = wanted_or (wanted (Claim inode_type) a) s.wants (Blames (k a)) ne later
     goes s op m k is a ne later = wanted_or (wanted op a) s.wants (Blames (k a)) ne later
 
-    blames : (s : Before) (p : P Reply) → AsksSo One call s p → Spares s.wants → Blames p
+    blames : (s : Before) (p : P Reply) → AsksSo version call s p → Spares s.wants → Blames p
     blames s (Ret r) so ne = not_so s.wants s.changed r.answer so.1 ne
-    blames s (Do op m k) so ne = (fits s op m k so.0.1, λ a. goes s op m k so.0 a ne (λ later. blames (after One call s op m k so.0 a) (k a) (so.1 a) later))
+    blames s (Do op m k) so ne = (fits s op m k so.0.1, λ a. goes s op m k so.0 a ne (λ later. blames (after version call s op m k so.0 a) (k a) (so.1 a) later))
 
-  pub calls_blame : (call : Call) → Blames (program call)
-  calls_blame call = blames call (holding [] fresh []) (program call) (calls_ask One call) tt
+  pub calls_blame : (call : Call) → Blames (program version call)
+  calls_blame call = blames call (holding [] fresh []) (program version call) (calls_ask version call) tt

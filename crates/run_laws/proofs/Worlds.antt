@@ -1,5 +1,5 @@
 -- Runs of a mounted world are runs of the machine of whole inodes.
-use Rattle.run_laws.proofs.Vocabulary.{inl, inr, Option, Some, None, ◌≡◌, ℕ, List, [], ◌∷◌, refl, sym, ◌∙◌, ap, subst, Super, sizes_of, Call, Theory, EventOf, State, fresh, outcomes, run, history, all_by_kind, plain_outcomes, erase-outcomes, Outside, first, block_calls, block_code, is_code, Event, HartsOf, Rests, AllAnswer, IsHistory, all_shown, outcomes_of, trace_in, WorldOf, mountable, rests_erased, BeginsRun, RefinesWholeInodes, operations_of, IsRun, RunsTo, WorldsRefineWholeInodes, All, All-cons, All-nil, Reply, TracedCall, Shown, trace_of, In, all_honest, IsRunOfCall, lowered_inode_calls}
+use Rattle.run_laws.proofs.Vocabulary.{inl, inr, Option, Some, None, ◌≡◌, ℕ, List, [], ◌∷◌, refl, sym, ◌∙◌, ap, subst, Super, sizes_of, Call, Theory, EventOf, State, fresh, outcomes, run, history, all_by_kind, plain_outcomes, erase-outcomes, Outside, first, block_calls, block_code, is_code, Event, HartsOf, Rests, AllAnswer, IsHistory, all_shown, outcomes_of, trace_in, WorldOf, mountable, rests_erased, BeginsRun, RefinesWholeInodes, operations_of, IsRun, RunsTo, WorldsRefineWholeInodes, All, All-cons, All-nil, Reply, TracedCall, Shown, trace_of, In, all_honest, IsRunOfCall, lowered_inode_calls, version_in}
 use Rattle.hart_core.specs.declared.events.Came.{Came}
 use Rattle.run_laws.proofs.Refined.{runs_refine}
 use Rattle.run_laws.proofs.Shown.{shown_same}
@@ -41,14 +41,14 @@ module _ {D : Type 0} (contents : D → List (List ℕ)) (failures : D → ℕ) 
     matches : Matches (sizes_of disk) s (trace_in events came)
     matches = subst (λ (ss : List Shown). Matches (sizes_of disk) s (trace_of ss)) shown_is (traced_matches (sizes_of disk) (first disk count) history)
 
-    runs_to : (c : TracedCall) (o : Option (ℕ × Reply)) → Matched (sizes_of disk) s c o → RunsTo c.call (operations_of (sizes_of disk) s c.start) o
+    runs_to : (c : TracedCall) (o : Option (ℕ × Reply)) → Matched (sizes_of disk) s c o → RunsTo (version_in disk) c.call (operations_of (sizes_of disk) s c.start) o
     runs_to c (Some r) m =
-        subst (IsRunOfCall c.call (operations_of (sizes_of disk) s c.start)) m.4
-        (subst (λ (z : ℕ). IsRunOfCall c.call (operations_of (sizes_of disk) s z) m.0.reply) m.3
-        (subst (λ (z : Call). IsRunOfCall z (operations_of (sizes_of disk) s m.0.start) m.0.reply) m.2 (history_refines.runs.whole m.0 m.1)))
+        subst (IsRunOfCall (version_in disk) c.call (operations_of (sizes_of disk) s c.start)) m.4
+        (subst (λ (z : ℕ). IsRunOfCall (version_in disk) c.call (operations_of (sizes_of disk) s z) m.0.reply) m.3
+        (subst (λ (z : Call). IsRunOfCall (version_in disk) z (operations_of (sizes_of disk) s m.0.start) m.0.reply) m.2 (history_refines.runs.whole m.0 m.1)))
     runs_to c None m =
-        subst (λ (z : ℕ). BeginsRun c.call (operations_of (sizes_of disk) s z)) m.3
-        (subst (λ (z : Call). BeginsRun z (operations_of (sizes_of disk) s m.0.start)) m.2 (history_refines.runs.begun c.hart m.0 m.1))
+        subst (λ (z : ℕ). BeginsRun (version_in disk) c.call (operations_of (sizes_of disk) s z)) m.3
+        (subst (λ (z : Call). BeginsRun (version_in disk) z (operations_of (sizes_of disk) s m.0.start)) m.2 (history_refines.runs.begun c.hart m.0 m.1))
 
     calls_run : All (IsRun disk count history) (trace_in events came).calls
     calls_run = all_of (IsRun disk count history) (trace_in events came).calls (λ c i. runs_to c c.finished (matches.calls c i))

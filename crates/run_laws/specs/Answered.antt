@@ -19,7 +19,7 @@ pub record FoundNone (sizes : Super) (s : State (lowered_inode_calls sizes)) (ba
   pub wants : wanted operation.step.op operation.step.answer ≡ Some room
   pub world : World
   pub leads : Chain (lowered_inode_calls sizes) base before world
-  pub none : HasNone world operation.hart operation.step.op room
+  pub none : HasNone sizes.version world operation.hart operation.step.op room
 
 module _ (disk : List (List ℕ)) (failures : ℕ) (history : List (EventOf Call Outside)) where
   abbrev inodes : Theory

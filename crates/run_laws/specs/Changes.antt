@@ -1,6 +1,6 @@
 -- What an operation on whole inodes changes that outlasts its call: inodes on the disk, and open files.
 use Rattle.std.specs.Prelude.{◌≡◌, ◌≢◌, ◌⊎◌, ◌<◌, ℕ, List, [], ◌∷◌, ◌++◌, length, Option, Some, None}
-use Rattle.run_laws.specs.Vocabulary.{node_or, Name, look, Deed, entry_moved, entry_of, with_bytes, Entry, Mark, Short, World, Wrote as WriteResult, WriteFile}
+use Rattle.run_laws.specs.Vocabulary.{node_or, Name, look, Deed, entry_moved, entry_of, with_bytes, Entry, Mark, Short, World, Wrote as WriteResult, WriteFile, Version}
 use Rattle.run_laws.specs.WholeInodes.{IsStep, Operation}
 pub use Rattle.call_programs.specs.Changes.{Sighting, Change, by_claim, by_free, by_count, where_there, by_entry, by_install, by_write, by_double, by_shut, changed_by, seen_by, Claimed, Counted, Raised, Lowered, Filled, Entered, Cleared, Emptied, Freed, Wrote, TookPlace, GaveBack, Moved}
 
@@ -37,17 +37,18 @@ pub record HasWritten (t : World) (h fd : ℕ) (bytes : List ℕ) (u : World) : 
 
 -- So does each operation that reports no change.
 abbrev pub ChangesAreTold : Type 0
-ChangesAreTold = (t u : World) (h : ℕ) (e : Operation) → IsStep t h e u → changes_of (e ∷ []) ≡ [] → LeavesAll t u
+ChangesAreTold =
+    (version : Version) (t u : World) (h : ℕ) (e : Operation) → IsStep version t h e u → changes_of (e ∷ []) ≡ [] → LeavesAll t u
 
 -- And an operation that reports to have written bytes has written just these.
 abbrev pub WritesAreMade : Type 0
 WritesAreMade =
-    (t u : World) (h fd n offset : ℕ) (bytes b : List ℕ) (wrote : WriteResult) (mark : Option Mark) (told : Option Deed)
-    → IsStep t h (record { op = WriteFile fd n offset bytes; answer = wrote; mark = mark; told = told }) u
+    (version : Version) (t u : World) (h fd n offset : ℕ) (bytes b : List ℕ) (wrote : WriteResult) (mark : Option Mark) (told : Option Deed)
+    → IsStep version t h (record { op = WriteFile fd n offset bytes; answer = wrote; mark = mark; told = told }) u
     → by_write fd bytes wrote ≡ Wrote fd b ∷ [] → HasWritten t h fd b u
 
 -- And one that is answered that there was no block for all of its bytes has written fewer than it was asked to.
 abbrev pub ShortWritesAreShort : Type 0
 ShortWritesAreShort =
-    (t u : World) (h fd n offset k : ℕ) (bytes : List ℕ) (mark : Option Mark) (told : Option Deed)
-    → IsStep t h (record { op = WriteFile fd n offset bytes; answer = Short k; mark = mark; told = told }) u → k < length bytes
+    (version : Version) (t u : World) (h fd n offset k : ℕ) (bytes : List ℕ) (mark : Option Mark) (told : Option Deed)
+    → IsStep version t h (record { op = WriteFile fd n offset bytes; answer = Short k; mark = mark; told = told }) u → k < length bytes

@@ -115,7 +115,8 @@ module _ (sizes : Super) where
 
   -- these notes are of this call, which ends with that reply, or is under way
   abbrev pub AreOf : Call → Option Reply → Notes inodes.M → Type 0
-  AreOf call r es = IsFaithful whole_inodes (layer sizes) (handlers sizes) IsOperation r nothing (program call) es
+  AreOf call r es =
+      IsFaithful (whole_inodes sizes.version) (layer sizes) (handlers sizes) IsOperation r nothing (program sizes.version call) es
 
   abbrev pub AreOfFinished : Call → Notes inodes.M → Reply → Type 0
   AreOfFinished call es reply = AreOf call (Some reply) es

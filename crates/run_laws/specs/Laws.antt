@@ -1,13 +1,13 @@
 -- Every run of the calls on blocks is one of the machine of whole inodes, with the same replies.
 use Rattle.std.specs.Prelude.{◌≡◌, ◌<◌, ◌≤◌, ℕ, false, List, ◌++◌, Some}
-use Rattle.run_laws.specs.Vocabulary.{Super, sizes_of, Reply, Call, Theory, AllHonest, EventOf, FinishedCall, PlacedStep, Run, State, fresh, outcomes, run, Chain, In, IsOfCall, IsRising, history, steps_of, Both, Outside, IsMountable, first_world, first, layer, block_calls}
+use Rattle.run_laws.specs.Vocabulary.{Super, sizes_of, Reply, Call, Theory, AllHonest, EventOf, FinishedCall, PlacedStep, Run, State, fresh, outcomes, run, Chain, In, IsOfCall, IsRising, history, steps_of, Both, Outside, IsMountable, first_world, first, layer, block_calls, Version}
 use Rattle.inode_machine.specs.World as above
 use Rattle.calls_on_blocks.specs.Layer.{World}
 use Rattle.run_laws.specs.WholeInodes.{IsRunOfCall, Operation, lowered_inode_calls, unreserved}
 
 -- these operations begin a run of the call's program
-abbrev pub BeginsRun : Call → List Operation → Type 0
-BeginsRun call es = (rest : List Operation) × (reply : Reply) × IsRunOfCall call (es ++ rest) reply
+abbrev pub BeginsRun : Version → Call → List Operation → Type 0
+BeginsRun version call es = (rest : List Operation) × (reply : Reply) × IsRunOfCall version call (es ++ rest) reply
 
 module _ (sizes : Super) (s : State (lowered_inode_calls sizes)) where
   abbrev L : Theory
@@ -30,8 +30,8 @@ module _ (sizes : Super) (s : State (lowered_inode_calls sizes)) where
     pub shown : s.stopped ≡ false → (layer sizes).Shows s.world.real s.world.seen
     -- a finished call's are a run of its program, which ends with the reply that was given; those of a call under way
     -- begin one. If the reply is that there is no room, one of them wanted it.
-    pub whole : (f : FinishedCall L) → In f s.finished → IsRunOfCall f.call (operations_of f.start) f.reply
-    pub begun : (h : ℕ) (r : Run L) → s.running h ≡ Some r → BeginsRun r.call (operations_of r.start)
+    pub whole : (f : FinishedCall L) → In f s.finished → IsRunOfCall sizes.version f.call (operations_of f.start) f.reply
+    pub begun : (h : ℕ) (r : Run L) → s.running h ≡ Some r → BeginsRun sizes.version r.call (operations_of r.start)
     -- each is of a call, and is made between the call's start and its return, or the last event
     pub owned : (e : PlacedStep L) → In e operations_made → IsOfCall L s e
     pub within : (f : FinishedCall L) → In f s.finished

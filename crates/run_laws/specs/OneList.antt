@@ -1,7 +1,7 @@
 -- A run has one list of tree steps, and it only grows: each beginning of the run agrees with it.
 use Rattle.std.specs.Prelude.{◌≡◌, ◌⊎◌, ℕ, ◌≤◌, List, ◌++◌, length, take}
 use Rattle.run_laws.specs.Vocabulary.{tree_in, Call, Placed, Explains, IsNamedPart, Tree, tree_of, TreeData, IsMarked, before, EventOf, Outside, history_of, block_moves, first, Came, Event, HartsOf, FoundRoom, IsHistory, IsMounted, NoneClimbs, OneHart, trace_in, after_first, marks_of, WorldOf}
-use Rattle.plain_tree.specs.VersionOne.{Chain}
+use Rattle.plain_tree.specs.Explains.{Chain}
 
 -- the list has these entries first
 abbrev pub IsBeginningOf : List Placed → List Placed → Type 0
@@ -12,7 +12,7 @@ module _ {D : Type 0} (contents : D → List (List ℕ)) (failures : D → ℕ) 
   abbrev pub list_of : WorldOf D → List (EventOf Call Outside) → List Placed
   list_of w history =
       let device = w.harts.core.log.cache.device in
-      history_of (block_moves w.sizes) (first (contents device) (failures device)) history
+      history_of w.sizes.version (block_moves w.sizes) (first (contents device) (failures device)) history
 
   -- the disk as it is after the first k events
   abbrev pub disk_after : WorldOf D → ℕ → List (EventOf Call Outside) → List (List ℕ)
@@ -25,14 +25,14 @@ module _ {D : Type 0} (contents : D → List (List ℕ)) (failures : D → ℕ) 
     pub so_far : list_of w (take k history) ≡ before k (list_of w history)
     pub begins : IsBeginningOf (list_of w (take k history)) (list_of w history)
     -- It explains the calls that were started so far, and their replies.
-    pub explains : Explains base (trace_in (take k events) (take k came)) (list_of w (take k history))
+    pub explains : Explains w.sizes.version base (trace_in (take k events) (take k came)) (list_of w (take k history))
     -- If the world stops at this point, this count of events is stored: those up to the cut, or up to the doubt.
     pub stored : ℕ
     pub marked : IsMarked (marks_of contents failures w (take k history)) stored
     pub past : stored ≤ k
     -- The disk's tree is what has names in the tree to which their entries lead.
     pub tree : Tree
-    pub leads : Chain (tree_of base) (before stored (list_of w history)) tree
+    pub leads : Chain w.sizes.version (tree_of base) (before stored (list_of w history)) tree
     pub named : IsNamedPart tree (tree_of (tree_in (disk_after w k history)))
 
   -- If this world is as a mount left it, in each history of a run all beginnings agree with one list, from the

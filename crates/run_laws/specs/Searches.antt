@@ -1,7 +1,7 @@
 -- The search for a block or for an inode ends without one only if it has looked everywhere, whatever its steps are
 -- answered.
 use Rattle.std.specs.Prelude.{◌≡◌, ◌⊎◌, ℕ, ◌<◌, ◌≤◌, true, false, List, [], ◌∷◌, length, Option, Some, IsSome}
-use Rattle.run_laws.specs.Vocabulary.{Super, bit_of, dinode_at, Full, Blocks, Descriptors, Directory, DiskInodes, MemInodes, OpenFiles, name_len, In, Handover, Prog, Ret, Do, Ran, place_in_memory, Outside, AnswerBelow as Answer, Get, HasNoInode as NoInode, Read, exec, is_zero, inode_block, place_of, Enter, Carry, handlers}
+use Rattle.run_laws.specs.Vocabulary.{Super, bit_of, dinode_at, Full, Blocks, Descriptors, Directory, DiskInodes, MemInodes, OpenFiles, name_len_of, In, Handover, Prog, Ret, Do, Ran, place_in_memory, Outside, AnswerBelow as Answer, Get, HasNoInode as NoInode, Read, exec, is_zero, inode_block, place_of, Enter, Carry, handlers, Version}
 use Rattle.fs_machine.specs.Steps.{Claim, Op, State}
 use Rattle.inode_machine.specs.World as above
 use Rattle.call_programs.specs.Wanted.{wanted}
@@ -49,9 +49,9 @@ SawNone sizes es Descriptors = Unit {0}
 SawNone sizes es Directory = Unit {0}
 
 -- a name that is entered fits into an entry
-abbrev pub NameFits : above.Op → Type 0
-NameFits (Enter d e n) = length e ≤ name_len
-NameFits op = Unit {0}
+abbrev pub NameFits : Version → above.Op → Type 0
+NameFits version (Enter d e n) = length e ≤ name_len_of version
+NameFits version op = Unit {0}
 
 -- Whatever the program of an operation on whole inodes is answered, it has looked everywhere. If it ends for want of
 -- a block it has read the bitmap, and no bit was clear. If it ends for want of an inode it has read each inode's
@@ -60,7 +60,7 @@ abbrev pub SearchesSeeAll : Type 0
 SearchesSeeAll =
     (sizes : Super) (c : Carry) (op : above.Op) (m : above.Answer op → Option above.Mark) (es : List AnsweredStep)
     (r : Handover (above.Answer op) Carry) (room : Full)
-    → NameFits op → ComesTo (handlers sizes c op m) es r → wanted op r.answer ≡ Some room → SawNone sizes es room
+    → NameFits sizes.version op → ComesTo (handlers sizes c op m) es r → wanted op r.answer ≡ Some room → SawNone sizes es room
 
 -- And if the answer is that none of its candidates could be claimed, a reference to each of them was there when it
 -- was made.

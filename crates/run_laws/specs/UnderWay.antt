@@ -1,6 +1,6 @@
 -- Which operation on whole inodes is under way in each hart's call, at each event of a run: how it goes on, and what is placed as it acts.
 use Rattle.std.specs.Prelude.{◌≡◌, ℕ, suc, Bool, true, false, not, List, [], ◌∷◌, ◌++◌, length, Option, Some, None, is_some}
-use Rattle.run_laws.specs.Vocabulary.{Super, Reply, Call, Handover, Ret, Do, bind, Ran, Theory, Run, State, EventOf, Start, Step, EventOutcome, Made, Started, DidRun, DidEnd, fresh, makes, run, changed, or_else, ActOf, lowered, Outside, AnswerBelow, program, nothing, handlers, Carry, layer, first, block_calls, block_moves, machine, Above, Answer, Mark, Op, World, Take, StatFile, LockFile, LockOpen, Claim, MoveStep, go, places, placed, seen_in, Came, Event, HartsOf, IsHistory, IsMounted, WorldOf}
+use Rattle.run_laws.specs.Vocabulary.{Super, Reply, Call, Handover, Ret, Do, bind, Ran, Theory, Run, State, EventOf, Start, Step, EventOutcome, Made, Started, DidRun, DidEnd, fresh, makes, run, changed, or_else, ActOf, lowered, Outside, AnswerBelow, program, nothing, handlers, Carry, layer, first, block_calls, block_moves, machine, Above, Answer, Mark, Op, World, Take, StatFile, LockFile, LockOpen, Claim, MoveStep, go, places, placed, seen_in, Came, Event, HartsOf, IsHistory, IsMounted, WorldOf, Version}
 use Rattle.fs_machine.specs.Steps as steps
 use Rattle.inode_machine.specs.World as above
 use Rattle.inode_machine.specs.World.Op.{Leave}
@@ -70,20 +70,20 @@ HasActed InOne first acted = Unit {0}
 -- ---- as it acts
 
 -- an inode whose lock is taken is answered as it is seen then
-abbrev pub SeesTruly : (op : Op) → Answer op → World → Type 0
-SeesTruly (Take n looking) a w = a ≡ seen_in n looking (w.disk n)
-SeesTruly op a w = Unit {0}
+abbrev pub SeesTruly : Version → (op : Op) → Answer op → World → Type 0
+SeesTruly version (Take n looking) a w = a ≡ seen_in version n looking (w.disk n)
+SeesTruly version op a w = Unit {0}
 
 -- If it acts with this answer the machine of whole inodes answers so, and goes from v to w; if it doesn't, nothing is
 -- done there.
-abbrev pub IsMadeBy : ℕ → (u : UnderWay) → Option (Answer u.op) → (v w : World) → Type 0
-IsMadeBy h u None v w = w ≡ v
-IsMadeBy h u (Some a) v w = ((x : above.Outside) × (go h x u.op u.mark v ≡ Ran a w)) × SeesTruly u.op a v
+abbrev pub IsMadeBy : Version → ℕ → (u : UnderWay) → Option (Answer u.op) → (v w : World) → Type 0
+IsMadeBy version h u None v w = w ≡ v
+IsMadeBy version h u (Some a) v w = ((x : above.Outside) × (go version h x u.op u.mark v ≡ Ran a w)) × SeesTruly version u.op a v
 
 -- what is placed by its mark at this answer, if it acts
-abbrev pub placed_by : ℕ → (u : UnderWay) → Option (Answer u.op) → World → List (ℕ × MoveStep)
-placed_by h u None w = []
-placed_by h u (Some a) w = places h u.op a (u.mark a) w
+abbrev pub placed_by : Version → ℕ → (u : UnderWay) → Option (Answer u.op) → World → List (ℕ × MoveStep)
+placed_by version h u None w = []
+placed_by version h u (Some a) w = places version h u.op a (u.mark a) w
 
 -- ---- how it goes on
 
@@ -118,7 +118,7 @@ module _ (sizes : Super) where
 
   -- the rest of the call's program on the blocks
   abbrev pub program_left : UnderWay → P Reply
-  program_left u = bind u.left (λ z. lowered machine (layer sizes) (handlers sizes) z.carry (u.rest z.answer))
+  program_left u = bind u.left (λ z. lowered (machine sizes.version) (layer sizes) (handlers sizes) z.carry (u.rest z.answer))
 
   -- a call of whose program this is left is in that operation
   pub record IsInOperation (left : P Reply) (u : UnderWay) : Type 0 where
@@ -143,7 +143,7 @@ module _ (sizes : Super) where
     pub is : was h ≡ Some under
     -- the step on the blocks is the next one of the operation's program
     pub op : steps.Op
-    pub mark : AnswerBelow op → Option (ActOf machine)
+    pub mark : AnswerBelow op → Option (ActOf (machine sizes.version))
     pub rest : AnswerBelow op → P (Handover (Answer under.op) Carry)
     pub asks : under.left ≡ Do op mark rest
     pub answer : AnswerBelow op
@@ -152,8 +152,8 @@ module _ (sizes : Super) where
     pub acts : Option (Answer under.op)
     pub then_ : ActsThen (time_of under.op) (none_ran under.ran) (is_at_end (rest answer)) (is_some acts)
     pub once : is_some acts ≡ true → under.acted ≡ None
-    pub does : IsMadeBy h under acts s.world.seen made.after.world.seen
-    pub places : placed (block_moves sizes) (Step h x) s ≡ placed_by h under acts s.world.seen
+    pub does : IsMadeBy sizes.version h under acts s.world.seen made.after.world.seen
+    pub places : placed sizes.version (block_moves sizes) (Step h x) s ≡ placed_by sizes.version h under acts s.world.seen
     -- so it goes on
     pub ends : EndsAsActed under (or_else acts under.acted) (rest answer)
     pub came : made.came ≡ step_outcome under (op, answer) (rest answer)
@@ -161,7 +161,7 @@ module _ (sizes : Super) where
 
   -- a call that begins is at the beginning of its first operation, with nothing in hand
   abbrev pub StartDoes : ℕ → Call → EventOutcome (block_calls sizes) → (was now : ℕ → Option UnderWay) → Type 0
-  StartDoes h call Started was now = now ≡ changed was h (at_beginning nothing (program call))
+  StartDoes h call Started was now = now ≡ changed was h (at_beginning nothing (program sizes.version call))
   StartDoes h call came was now = now ≡ was
 
   -- a step that didn't run does nothing
@@ -169,7 +169,7 @@ module _ (sizes : Super) where
       → (was now : ℕ → Option UnderWay) → Type 0
   StepDoes h x s made (DidRun step) was now = RunsAStep h x s made was now
   StepDoes h x s made (DidEnd reply) was now = RunsAStep h x s made was now
-  StepDoes h x s made came was now = (now ≡ was) × (placed (block_moves sizes) (Step h x) s ≡ [])
+  StepDoes h x s made came was now = (now ≡ was) × (placed sizes.version (block_moves sizes) (Step h x) s ≡ [])
 
   -- an event that made this of the state
   abbrev pub EventDoes : EventOf Call Outside → State (block_calls sizes) → Made (block_calls sizes)
@@ -183,13 +183,15 @@ module _ (sizes : Super) where
     abbrev pub PlacesAt : ActingTime → (first : Bool) → (r : RunsAStep h x s made was now) → P (Handover (Answer r.under.op) Carry) → Type 0
     PlacesAt InFirst true r left =
         (a : Answer r.under.op)
-        × (placed (block_moves sizes) (Step h x) s ≡ places h r.under.op a (r.under.mark a) s.world.seen)
-        × SeesTruly r.under.op a s.world.seen
+        × (placed sizes.version (block_moves sizes) (Step h x) s ≡ places sizes.version h r.under.op a (r.under.mark a) s.world.seen)
+        × SeesTruly sizes.version r.under.op a s.world.seen
         × (or_else r.acts r.under.acted ≡ Some a)
-    PlacesAt InFirst false r left = (placed (block_moves sizes) (Step h x) s ≡ []) × (or_else r.acts r.under.acted ≡ r.under.acted)
+    PlacesAt InFirst false r left =
+        (placed sizes.version (block_moves sizes) (Step h x) s ≡ []) × (or_else r.acts r.under.acted ≡ r.under.acted)
     PlacesAt InLast first r (Ret z) =
-        placed (block_moves sizes) (Step h x) s ≡ places h r.under.op z.answer (r.under.mark z.answer) s.world.seen
-    PlacesAt InLast first r (Do op m k) = placed (block_moves sizes) (Step h x) s ≡ []
+        placed sizes.version (block_moves sizes) (Step h x) s
+        ≡ places sizes.version h r.under.op z.answer (r.under.mark z.answer) s.world.seen
+    PlacesAt InLast first r (Do op m k) = placed sizes.version (block_moves sizes) (Step h x) s ≡ []
     PlacesAt InOne first r left = Unit {0}
 
   -- ---- a run

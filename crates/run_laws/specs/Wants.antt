@@ -1,7 +1,7 @@
 -- No room is found only if there is none.
 use Rattle.std.specs.Prelude.{◌≡◌, ◌⊎◌, ℕ, ◌<◌, ◌≤◌, List, [], ◌∷◌, length, Option, Some, IsSome}
 use Rattle.std.specs.List.{All}
-use Rattle.run_laws.specs.Vocabulary.{Super, sizes_of, Full, Blocks, Descriptors, Directory, DiskInodes, MemInodes, OpenFiles, Call, Node, all_slots, descriptor_count, hart_count, EventOf, PlacedStep, fresh, run, Outside, file_count, place_count, referenced, slot_limit, Op, World, Enter, first_world, first, Came, Event, HartsOf, IsHistory, IsMounted, WorldOf}
+use Rattle.run_laws.specs.Vocabulary.{Super, sizes_of, Full, Blocks, Descriptors, Directory, DiskInodes, MemInodes, OpenFiles, Call, Node, all_slots, descriptor_count, hart_count, EventOf, PlacedStep, fresh, run, Outside, file_count, place_count, referenced, slot_limit, Op, World, Enter, first_world, first, Came, Event, HartsOf, IsHistory, IsMounted, WorldOf, Version}
 use Rattle.run_laws.specs.Laws.{operations_made}
 use Rattle.call_programs.specs.Wanted.{wanted}
 use Rattle.run_laws.specs.WholeInodes.{IsStep, Operation, lowered_inode_calls, unreserved}
@@ -24,34 +24,35 @@ AllOpenFilesAreTaken w = (k : ℕ) → k < file_count → IsTaken w k
 abbrev pub AllDescriptorsAreTaken : World → ℕ → Type 0
 AllDescriptorsAreTaken w h = (fd : ℕ) → fd < descriptor_count → IsSome ((w.desks h).fds fd)
 
--- a directory has 17,152 slots, and each is used
-abbrev pub IsFullDirectory : Option Node → Type 0
-IsFullDirectory v = (length (all_slots v) ≡ slot_limit) × All IsSome (all_slots v)
+-- a directory has the most slots of its version, and each is used
+abbrev pub IsFullDirectory : Version → Option Node → Type 0
+IsFullDirectory version v = (length (all_slots v) ≡ slot_limit version) × All IsSome (all_slots v)
 
 -- so is the directory in which the operation enters a name
-abbrev pub EntersInFull : World → Op → Type 0
-EntersInFull w (Enter d e n) = IsFullDirectory (w.disk d)
-EntersInFull w op = ⊥
+abbrev pub EntersInFull : Version → World → Op → Type 0
+EntersInFull version w (Enter d e n) = IsFullDirectory version (w.disk d)
+EntersInFull version w op = ⊥
 
 -- In this world hart h, which makes this operation, has no room of this kind. Of blocks and of inodes on disk nothing is said here: they
 -- are looked for in steps of their own, one after the other.
-abbrev pub HasNone : World → ℕ → Op → Full → Type 0
-HasNone w h op MemInodes = AllPlacesAreTaken w
-HasNone w h op OpenFiles = AllOpenFilesAreTaken w
-HasNone w h op Descriptors = AllDescriptorsAreTaken w h
-HasNone w h op Blocks = Unit {0}
-HasNone w h op DiskInodes = Unit {0}
-HasNone w h op Directory = EntersInFull w op
+abbrev pub HasNone : Version → World → ℕ → Op → Full → Type 0
+HasNone version w h op MemInodes = AllPlacesAreTaken w
+HasNone version w h op OpenFiles = AllOpenFilesAreTaken w
+HasNone version w h op Descriptors = AllDescriptorsAreTaken w h
+HasNone version w h op Blocks = Unit {0}
+HasNone version w h op DiskInodes = Unit {0}
+HasNone version w h op Directory = EntersInFull version w op
 
 -- what the operation wanted and didn't find, this world doesn't have
-abbrev pub WantsWhatIsnt : World → ℕ → Operation → Type 0
-WantsWhatIsnt w h e = (room : Full) → wanted e.op e.answer ≡ Some room → HasNone w h e.op room
+abbrev pub WantsWhatIsnt : Version → World → ℕ → Operation → Type 0
+WantsWhatIsnt version w h e = (room : Full) → wanted e.op e.answer ≡ Some room → HasNone version w h e.op room
 
 -- The operations lead from t to u, one after the other; and each is made in a world that doesn't have what it wanted and didn't find.
 abbrev pub LeadsThroughWants : (sizes : Super) → World → List (PlacedStep (lowered_inode_calls sizes)) → World → Type 0
 LeadsThroughWants sizes t [] u = u ≡ t
 LeadsThroughWants sizes t (e ∷ es) u =
-    (next : World) × IsStep t e.hart e.step next × WantsWhatIsnt t e.hart e.step × LeadsThroughWants sizes next es u
+    (next : World) × IsStep sizes.version t e.hart e.step next × WantsWhatIsnt sizes.version t e.hart e.step
+    × LeadsThroughWants sizes next es u
 
 module _ (disk : List (List ℕ)) (failures : ℕ) (events : List (EventOf Call Outside)) where
   -- so do the operations on whole inodes that the events make on this mounted disk, from its tree to what is seen at the end

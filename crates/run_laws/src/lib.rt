@@ -86,7 +86,7 @@ pub fn room_is_told_by_answers<D: Device>(world: &World<D>)
 /// - no place in memory: fifty inodes or more are referred to;
 /// - no place for an open file: all hundred are taken;
 /// - no descriptor: the hart's sixteen have open files;
-/// - no slot: the directory has 17,152 and each is used.
+/// - no slot: the directory has the most of its image's version (17,152 or 8,576), and each is used.
 pub fn no_room_only_where_there_is_none<D: Device>(world: &World<D>)
     ensures { NoRoomOnlyWhereThereIsNone D.contents D.failures world.now }
 {

@@ -76,35 +76,45 @@ fn hand_round<'a, L: Ledger + Send + Sync, R: Threads + Wait + Abort + Sync>(
     }
 }
 
-// Whether the list that is handed out explains what a run on the image has shown.
-fn is_explained(rt: &impl Abort, alloc: Global, image: &[u8], run: &LeftRun) -> bool {
+// Whether the list that is handed out explains what a run on the image, one of this version, has shown.
+fn is_explained(
+    rt: &impl Abort,
+    alloc: Global,
+    version: Version,
+    image: &[u8],
+    run: &LeftRun,
+) -> bool {
     let events = run.events.as_slice();
     let list = explain(alloc, image, events).expect(rt, "error");
     let mut disk = MemoryDisk::new(copied(rt, alloc, image));
-    let base = tree_of(alloc, &mut disk, Version::One).expect(rt, "error");
+    let base = tree_of(alloc, &mut disk, version).expect(rt, "error");
     let trace = trace(alloc, events, run.outcomes.as_slice()).expect(rt, "error");
-    let explains = check(alloc, Version::One, &base, &trace, list.as_slice()).expect(rt, "error");
+    let explains = check(alloc, version, &base, &trace, list.as_slice()).expect(rt, "error");
     explains && !list.is_empty()
 }
 
-/// Eight threads make the calls of a plan, and a gate hands turns to them. The close finds each seat's replies in the
+/// Eight threads make the calls of a plan on an image of each version, and a gate hands turns to them. The close finds each seat's replies in the
 /// list. Each event is that of its turn, and has the outcome that a world gave it. One list of tree steps explains
 /// all replies, and the disk is in order.
 #[test]
 fn eight_harts(rt: HostRuntime) {
     let alloc = rt.alloc();
-    let (image, seed) = (roomy_image(&rt, alloc), seed_in(&rt));
-    let plan = draw_plan(&rt, alloc, image.as_slice(), seed);
-    let turns = Turns::new(plan.turns(&rt, alloc));
-    let copy = copied(&rt, alloc, image.as_slice());
-    let calls = plan.rounds.calls(&rt, alloc);
-    let left = hand_round::<Brand, HostRuntime>(&rt, alloc, Blank::new(8), copy, &turns, calls);
-    assert!(rt; turns.are_over());
-    assert!(rt; are_same(&left, &plan.left));
-    assert!(rt; plan.rounds.count_good(&left) == CALLS);
-    assert!(rt; is_explained(&rt, alloc, image.as_slice(), &left));
-    let count = left.events.len();
-    let shape = examine(alloc, &mut MemoryDisk::new(left.bytes), Version::One).expect(&rt, "error");
-    assert!(rt; shape.orphans == 0);
+    let seed = seed_in(&rt);
+    let mut count = 0usize;
+    for version in [Version::One, Version::Two] {
+        let image = roomy_image(&rt, alloc, version);
+        let plan = draw_plan(&rt, alloc, image.as_slice(), seed);
+        let turns = Turns::new(plan.turns(&rt, alloc));
+        let copy = copied(&rt, alloc, image.as_slice());
+        let calls = plan.rounds.calls(&rt, alloc);
+        let left = hand_round::<Brand, HostRuntime>(&rt, alloc, Blank::new(8), copy, &turns, calls);
+        assert!(rt; turns.are_over());
+        assert!(rt; are_same(&left, &plan.left));
+        assert!(rt; plan.rounds.count_good(&left) == CALLS);
+        assert!(rt; is_explained(&rt, alloc, version, image.as_slice(), &left));
+        count = count.saturating_add(left.events.len());
+        let shape = examine(alloc, &mut MemoryDisk::new(left.bytes), version).expect(&rt, "error");
+        assert!(rt; shape.orphans == 0);
+    }
     let _ = println!(rt; "{count} events");
 }

@@ -4,8 +4,9 @@ ghost use Rattle.std.specs.Prelude.{◌≡◌};
 
 use hart_runner::{CallFault, Gate, Kernel, Seat};
 use image_tree::MountFault;
+use image_versions::Version;
 use locked_world::{Closed, Halt, Receipt};
-use mkfs::{NewFile, make};
+use mkfs::{NewFile, make_as};
 use plain_tree::{Bytes, Call, Reply};
 use std::alloc::Global;
 use std::process::Abort;
@@ -51,25 +52,37 @@ pub fn read(rt: &impl Abort, alloc: Global, fd: u32, buf: &[u8; 16]) -> Call {
     }
 }
 
-// A new image of this number of blocks and inodes, whose root has these files.
-fn made(rt: &impl Abort, alloc: Global, size: u32, ninodes: u32, files: &[NewFile]) -> Vec<u8> {
-    let disk = make(alloc, size, ninodes, files).expect(rt, "error");
+// A new image of this version, of this number of blocks and inodes, whose root has these files.
+fn made(
+    rt: &impl Abort,
+    alloc: Global,
+    version: Version,
+    size: u32,
+    ninodes: u32,
+    files: &[NewFile],
+) -> Vec<u8> {
+    let disk = make_as(alloc, version, size, ninodes, files).expect(rt, "error");
     disk.into_bytes()
 }
 
-/// An image of 60 blocks and 16 inodes, and a root without names.
-pub fn image(rt: &impl Abort, alloc: Global) -> Vec<u8> {
-    made(rt, alloc, 60, 16, &[])
+/// An image of this version, of 60 blocks and 16 inodes, and a root without names.
+pub fn image_of(rt: &impl Abort, alloc: Global, version: Version) -> Vec<u8> {
+    made(rt, alloc, version, 60, 16, &[])
 }
 
-/// An image of 200 blocks and 64 inodes, and a root without names: room for all that eight harts make at once.
-pub fn roomy_image(rt: &impl Abort, alloc: Global) -> Vec<u8> {
-    made(rt, alloc, 200, 64, &[])
+/// One of version 1.
+pub fn image(rt: &impl Abort, alloc: Global) -> Vec<u8> {
+    image_of(rt, alloc, Version::One)
+}
+
+/// An image of this version, of 200 blocks and 64 inodes, and a root without names: room for all that eight harts make at once.
+pub fn roomy_image(rt: &impl Abort, alloc: Global, version: Version) -> Vec<u8> {
+    made(rt, alloc, version, 200, 64, &[])
 }
 
 /// The image that `mkfs` makes if nothing else is asked for: 2000 blocks and 200 inodes, and a root without names.
 pub fn fresh_image(rt: &impl Abort, alloc: Global) -> Vec<u8> {
-    made(rt, alloc, 2000, 200, &[])
+    made(rt, alloc, Version::One, 2000, 200, &[])
 }
 
 /// The fresh image with the file `/f`, which has no bytes.
@@ -78,7 +91,7 @@ pub fn image_with_f(rt: &impl Abort, alloc: Global) -> Vec<u8> {
         name: copied(rt, alloc, b"f"),
         content: Vec::new(alloc),
     };
-    made(rt, alloc, 2000, 200, &[file])
+    made(rt, alloc, Version::One, 2000, 200, &[file])
 }
 
 /// Ends a test that has no kernel.

@@ -2,7 +2,7 @@
 ghost use Rattle.std.specs.Prelude.{◌≡◌};
 
 use crate::asks::{FILES, Rounds, SWEEP, calls_of};
-use crate::kernels::{CallResult, all_of, came_of, closed, copied, first_two, image, no_kernel};
+use crate::kernels::{CallResult, all_of, came_of, closed, first_two, image_of, no_kernel};
 use crate::runs::{LeftRun, left_by};
 use block_device::MemoryDisk;
 use hart_runner::{CallFault, Gate, Kernel, NoGate, Seat};
@@ -18,8 +18,8 @@ use std::sync::ledger::{Blank, Ledger};
 use std::thread;
 use std::thread::Threads;
 
-// How often the harts do their work.
-const ROUNDS: u32 = 100;
+// How often the harts do their work on an image of each version.
+const ROUNDS: u32 = 50;
 
 // How many calls are made in a round.
 const CALLS: u32 = 140;
@@ -218,27 +218,27 @@ fn round<L: Ledger + Send + Sync, R: Threads + Wait + Abort + Sync>(
     }
 }
 
-/// Eight harts make, write, link, read and unlink files in one directory at once, over names of their own and four
+/// Eight harts make, write, link, read and unlink files in one directory at once, on images of both versions, over names of their own and four
 /// shared ones. Each call is answered as it may be, and the close finds each seat's replies in the list. Nothing but
 /// the root is left on the disk.
 #[test]
 fn eight_harts(rt: HostRuntime) {
     let alloc = rt.alloc();
-    let image = image(&rt, alloc);
     let files = Rounds::new(&rt, alloc, &FILES);
     let mut all = Rounds::new(&rt, alloc, &FILES);
     all.add(&rt, 0, &SWEEP);
-    for _ in 0..ROUNDS {
-        let calls = Calls {
-            work: files.calls(&rt, alloc),
-            sweep: calls_of(&rt, alloc, 0, &SWEEP),
-        };
-        let copy = copied(&rt, alloc, image.as_slice());
-        let left = round::<Brand, HostRuntime>(&rt, alloc, Blank::new(8), copy, calls);
-        assert!(rt; all.count_good(&left) == CALLS);
-        let shape = examine(alloc, &mut MemoryDisk::new(left.bytes), Version::One).expect(
-            &rt, "error",
-        );
-        assert!(rt; (shape.live, shape.orphans, shape.blocks) == (1, 0, 1));
+    for version in [Version::One, Version::Two] {
+        for _ in 0..ROUNDS {
+            let calls = Calls {
+                work: files.calls(&rt, alloc),
+                sweep: calls_of(&rt, alloc, 0, &SWEEP),
+            };
+            let image = image_of(&rt, alloc, version);
+            let left = round::<Brand, HostRuntime>(&rt, alloc, Blank::new(8), image, calls);
+            assert!(rt; all.count_good(&left) == CALLS);
+            let mut disk = MemoryDisk::new(left.bytes);
+            let shape = examine(alloc, &mut disk, version).expect(&rt, "error");
+            assert!(rt; (shape.live, shape.orphans, shape.blocks) == (1, 0, 1));
+        }
     }
 }

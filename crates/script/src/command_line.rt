@@ -11,7 +11,7 @@ use std::alloc::{AllocError, Global};
 // What the program is called, whatever its file is.
 const NAME: &str = "console";
 
-const VERSION: &str = "0.1, for images of xv6 (version 1)";
+const VERSION: &str = "0.1, for images of version 1, xv6's, and version 2";
 
 // The script's grammar, the statuses, and the files that say more.
 const AFTER_HELP: &str = "\

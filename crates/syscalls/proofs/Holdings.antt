@@ -1,5 +1,5 @@
 -- What each operation on whole inodes finds in hand, and leaves there.
-use Rattle.syscalls.proofs.Vocabulary.{◌≡◌, ℕ, List, [], ◌∷◌, ◌++◌, Bool, true, false, Option, Some, None, sym, ap, ◌∙◌, refl, subst, ◌⊎◌, inl, inr, ◌==◌, is_some, Name, eq_self, GuardState, Inode, Hand, InodePlace, One, Two, first_in, inode_at, reference_at, with_aside, with_first, with_inode, with_listed, with_reference, with_seated, with_txn, unloaded, with_last, note_at, HasFound, HasFreeSeat, HasLock, HasReference, IsAlone, MayRefer, free_seat, locks, other, seat_of_lock, seat_of_reference, Note, Notes, MayLock, MayRelock, CameTo, Having, Joined, Leaves, Opened, ReferredOrAside, Relocked, Stand}
+use Rattle.syscalls.proofs.Vocabulary.{◌≡◌, ℕ, List, [], ◌∷◌, ◌++◌, Bool, true, false, Option, Some, None, sym, ap, ◌∙◌, refl, subst, ◌⊎◌, inl, inr, ◌==◌, is_some, Name, eq_self, GuardState, Inode, Hand, InodePlace, One, Two, first_in, inode_at, reference_at, with_aside, with_first, with_inode, with_listed, with_reference, with_seated, with_txn, unloaded, with_last, note_at, HasFound, HasFreeSeat, HasLock, HasReference, IsAlone, MayRefer, free_seat, locks, other, seat_of_lock, seat_of_reference, Note, Notes, MayLock, MayRelock, CameTo, Having, Joined, Leaves, Opened, ReferredOrAside, Relocked, Stand, Version}
 use Rattle.std.proofs.Common.{drop}
 use Rattle.inode_machine.specs.World as above
 use Rattle.syscalls.proofs.Seats.{Around, Apart, Finds, Held, HeldAt, InHand, IsClosed, IsHeldAt, IsLoaded, Locks, Nothing, Opens, Refers, seated, alone, at_free, at_lock, at_reference, beside_both, beside_lock, beside_record, beside_reference, lock_at, lock_kept, lock_seat, lock_stays, lock_there, none_is, reference_kept, reference_stays, reference_there, reference_with, is_first, none_free, only_reference, seated_held, swapped, updated, with_other_aside, with_other_list, with_other_txn}
@@ -114,10 +114,10 @@ module _ (t : Around) (y : Held) (s u : Having) where
           seat_is k at came = here k (locks_at n k s.hand u.hand came) (ap (locks n) (other_same k came.0 came.1) ∙ alone_at (Refers n) k at)
 
       -- a name was found
-      pub found : (path : List ℕ) (e : Name) → CameTo (seat_of_reference n s.hand) n s.hand u.hand → Stand (seat_of_reference n s.hand) s u → HasFound path e (note_at (seat_of_reference n s.hand) u.notes) → InHand t (Finds n path e) y u
-      found path e came noted named =
+      pub found : (version : Version) (path : List ℕ) (e : Name) → CameTo (seat_of_reference n s.hand) n s.hand u.hand → Stand (seat_of_reference n s.hand) s u → HasFound version path e (note_at (seat_of_reference n s.hand) u.notes) → InHand t (Finds version n path e) y u
+      found version path e came noted named =
           let k = seat_of_reference n s.hand in
-          lock_came (Finds n path e) came noted (there came, locks_at n k s.hand u.hand came, loaded_at n k s.hand u.hand came, named)
+          lock_came (Finds version n path e) came noted (there came, locks_at n k s.hand u.hand came, loaded_at n k s.hand u.hand came, named)
 
     -- ---- its lock given up, or kept
 
@@ -296,9 +296,9 @@ module _ (t : Around) (n : ℕ) (y : Held) (s : Having) (apart : Apart n y) (hel
             (seated_held t.2 (reference_at k u.hand) (inode_at k u.hand) (note_at k u.notes) (reference_there k s.hand.aside h u.hand e ∙ held.1.aside) (lock_kept k s.hand.aside h u.hand e ∙ at.here.1)),
       )
 
-  pub walked_down : (u : Having) (a : Bool) → Leaves [] (above.WalkDown n) a s u → InHand (t.0, with_last t.1 n a, None) (seated t.2) y u
-  walked_down u false e = replaced u e.0 e.1
-  walked_down u true e =
+  pub walked_down : (version : Version) (u : Having) (a : Bool) → Leaves version [] (above.WalkDown n) a s u → InHand (t.0, with_last t.1 n a, None) (seated t.2) y u
+  walked_down version u false e = replaced u e.0 e.1
+  walked_down version u true e =
       let ms = s.hand.listed ++ n ∷ [] in
       let gone : Having = record { hand = with_seated (seat_of_reference n s.hand) s.hand; notes = u.notes } in
       let at = replaced gone refl e.1 in (
@@ -322,8 +322,8 @@ txn_is t x y s u o held e noted = (
 pub txn_joined : (ns : List ℕ) (x y : Held) (s u : Having) → InHand (false, ns, None) x y s → Joined s.hand u.hand → u.notes ≡ s.notes → InHand (true, ns, None) x y u
 txn_joined ns x y s u held e noted = txn_is (false, ns, None) x y s u (Some e.0) held e.1 noted
 
-pub joined : (ns : List ℕ) (x y : Held) (s u : Having) → InHand (false, ns, None) x y s → Leaves [] above.Join tt s u → InHand (true, ns, None) x y u
-joined ns x y s u held e = txn_joined ns x y s u held e.0 e.1
+pub joined : (version : Version) (ns : List ℕ) (x y : Held) (s u : Having) → InHand (false, ns, None) x y s → Leaves version [] above.Join tt s u → InHand (true, ns, None) x y u
+joined version ns x y s u held e = txn_joined ns x y s u held e.0 e.1
 
-pub left : (ns : List ℕ) (x y : Held) (s u : Having) → InHand (true, ns, None) x y s → Leaves [] above.Leave tt s u → InHand (false, ns, None) x y u
-left ns x y s u held e = txn_is (true, ns, None) x y s u None held e.0 e.1
+pub left : (version : Version) (ns : List ℕ) (x y : Held) (s u : Having) → InHand (true, ns, None) x y s → Leaves version [] above.Leave tt s u → InHand (false, ns, None) x y u
+left version ns x y s u held e = txn_is (true, ns, None) x y s u None held e.0 e.1

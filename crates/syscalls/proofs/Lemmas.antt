@@ -1,5 +1,5 @@
 -- What the proofs of this crate's functions use: its lemmas, and what they speak of.
-pub use Rattle.syscalls.proofs.Vocabulary.{Bool, Call, IsCall, IsEmpty, MatchOption, None, Option, Reply, Running, Some, [], ap, call_at, refl, subst, sym, ◌++◌, ◌∙◌, ◌≡◌}
+pub use Rattle.syscalls.proofs.Vocabulary.{Bool, Call, IsCall, IsEmpty, MatchOption, None, Option, Reply, Running, Some, Version, [], ap, call_at, refl, subst, sym, ◌++◌, ◌∙◌, ◌≡◌}
 unfoldable pub use Rattle.syscalls.proofs.Vocabulary.{running_of}
 pub use Rattle.syscalls.specs.Vocabulary.{Done, Ran, RunsByParts, Stopped, Waits, path_of, state_of}
 pub use Rattle.syscalls.proofs.Closing.{close_runs, inherit_runs, stat_runs}

@@ -1,9 +1,10 @@
 -- The elements of a path are names that entries can have.
-use Rattle.syscalls.proofs.Vocabulary.{◌≡◌, ◌≢◌, ◌<◌, ◌≤◌, ℕ, zero, suc, true, false, ◌==◌, not, nat_le, nat_lt, List, [], ◌∷◌, ◌++◌, filter, inl, inr, length, map, take, refl, arith, nat_tests, length-take, list_all, IsName, is_name, is_name_byte, Name, elements, is_empty, pieces, name_len, either, eq_isnt, eq_not, IsPath}
+use Rattle.syscalls.proofs.Vocabulary.{◌≡◌, ◌≢◌, ◌<◌, ◌≤◌, ℕ, zero, suc, true, false, ◌==◌, not, nat_le, nat_lt, List, [], ◌∷◌, ◌++◌, filter, inl, inr, length, map, take, refl, arith, nat_tests, length-take, list_all, IsName, is_name, is_name_byte, Name, elements, is_empty, pieces, name_len_of, Version, either, eq_isnt, eq_not, IsPath}
+use Rattle.image_versions.proofs.Places.{in_range}
 
-abbrev pub AllNames : List Name → Type 0
-AllNames [] = Unit {0}
-AllNames (e ∷ es) = IsName e × AllNames es
+abbrev pub AllNames : Version → List Name → Type 0
+AllNames v [] = Unit {0}
+AllNames v (e ∷ es) = IsName v e × AllNames v es
 
 -- no byte of it is 0 or '/'
 abbrev IsText : List ℕ → Type 0
@@ -44,19 +45,22 @@ text_bytes (b ∷ bs) t =
     let apart : (b == 47) ≡ false = eq_not b 47 t.1 in
     rw (some, apart) (text_bytes bs t.2)
 
-is_named : (e : List ℕ) → 0 < length e → length e ≤ name_len → IsText e → is_name e ≡ true
-is_named e long short t =
+is_named : (v : Version) (e : List ℕ) → 0 < length e → length e ≤ name_len_of v → IsText e → is_name v e ≡ true
+is_named v e long short t =
     let some : nat_lt 0 (length e) ≡ true = grind (arith, nat_tests, long) in
-    let fits : nat_le (length e) name_len ≡ true = grind (arith, nat_tests, short) in
+    let fits : nat_le (length e) (name_len_of v) ≡ true = grind (arith, nat_tests, short) in
     rw (some, fits) (text_bytes e t)
 
-name_of : (b : ℕ) (bs : List ℕ) → IsText (b ∷ bs) → is_name (take name_len (b ∷ bs)) ≡ true
-name_of b bs t = is_named (take name_len (b ∷ bs)) (omega arith) (let a = length-take name_len (b ∷ bs) in omega (arith, a)) (text_take name_len (b ∷ bs) t)
+name_of : (v : Version) (b : ℕ) (bs : List ℕ) → IsText (b ∷ bs) → is_name v (take (name_len_of v) (b ∷ bs)) ≡ true
+name_of v b bs t =
+    let name = take (name_len_of v) (b ∷ bs) in
+    let a = length-take (name_len_of v) (b ∷ bs) in
+    is_named v name (omega (arith, in_range v, a)) (omega (arith, a)) (text_take (name_len_of v) (b ∷ bs) t)
 
-names_of : (es : List (List ℕ)) → AllTexts es → AllNames (map (λ e. take name_len e) (filter (λ e. not (is_empty e)) es))
-names_of [] t = tt
-names_of ([] ∷ es) t = names_of es t.1
-names_of ((b ∷ bs) ∷ es) t = (name_of b bs t.0, names_of es t.1)
+names_of : (v : Version) (es : List (List ℕ)) → AllTexts es → AllNames v (map (λ e. take (name_len_of v) e) (filter (λ e. not (is_empty e)) es))
+names_of v [] t = tt
+names_of v ([] ∷ es) t = names_of v es t.1
+names_of v ((b ∷ bs) ∷ es) t = (name_of v b bs t.0, names_of v es t.1)
 
-pub path_names : (path : List ℕ) → IsPath path → AllNames (elements path)
-path_names path is = names_of (pieces [] path) (pieces_text [] path tt is)
+pub path_names : (v : Version) (path : List ℕ) → IsPath path → AllNames v (elements v path)
+path_names v path is = names_of v (pieces [] path) (pieces_text [] path tt is)

@@ -1,12 +1,12 @@
 -- Programs within calls run with what they need in hand: for every program after them.
-use Rattle.syscalls.proofs.Vocabulary.{ℕ, List, [], Bool, true, false, Option, Some, None, refl, ap, if◌then◌else◌, Reply, Ret, Do, unmarked, P, drop, give_up, say, Frees, note_at, other, seat_of_reference, BeginsWith, Having, Leaves, Runs}
+use Rattle.syscalls.proofs.Vocabulary.{ℕ, List, [], Bool, true, false, Option, Some, None, refl, ap, if◌then◌else◌, Reply, Ret, Do, unmarked, P, drop, give_up, say, Frees, note_at, other, seat_of_reference, BeginsWith, Having, Leaves, Runs, Version}
 use Rattle.inode_machine.specs.World as above
 use Rattle.syscalls.proofs.Seats.{Apart, Around, Freed, Held, InHand, Locks, Nothing, Opens, Refers, in_empty}
 use Rattle.syscalls.proofs.Holdings.{at_its_lock, down_found, dropped, gave, joined, left, lock_found, locked, no_txn, reference_found, reloaded, stays}
 
-module _ (path : List ℕ) where
+module _ (version : Version) (path : List ℕ) where
   abbrev pub R : P Reply → Having → Type 0
-  R p s = Runs path (BeginsWith path) p s
+  R p s = Runs version path (BeginsWith version path) p s
 
   -- from what is in hand on, this program runs
   abbrev pub From : Around → Held → Held → P Reply → Type 0
@@ -17,11 +17,11 @@ module _ (path : List ℕ) where
   module _ (m : Unit {0} → Option above.Mark) (k : Unit {0} → P Reply) where
     pub join_runs : (ns : List ℕ) (x y : Held) → From (true, ns, None) x y (k tt) → From (false, ns, None) x y (Do above.Join m k)
     unfolding Runs
-    join_runs ns x y on s held = (no_txn ns x y s held, λ a u e. on u (joined ns x y s u held e))
+    join_runs ns x y on s held = (no_txn ns x y s held, λ a u e. on u (joined version ns x y s u held e))
 
     pub leave_runs : (ns : List ℕ) (x y : Held) → From (false, ns, None) x y (k tt) → From (true, ns, None) x y (Do above.Leave m k)
     unfolding Runs
-    leave_runs ns x y on s held = (held.1.txn, λ a u e. on u (left ns x y s u held e))
+    leave_runs ns x y on s held = (held.1.txn, λ a u e. on u (left version ns x y s u held e))
 
     pub say_runs : (t : Around) (x y : Held) → From t x y (k tt) → From t x y (Do above.Say m k)
     unfolding Runs
@@ -76,7 +76,7 @@ module _ (path : List ℕ) where
         (give_freed_runs unmarked (λ _. Do (above.Forget n) unmarked (λ _. k)) (true, ns, None) n y apart
         (forget_runs unmarked (λ _. k) (true, ns, None) n y apart on))
 
-    dropped_on : (s u : Having) → InHand (true, ns, None) (Refers n) y s → (a : Bool) → Leaves path (above.Down n) a s u → R (if a then freed else k) u
+    dropped_on : (s u : Having) → InHand (true, ns, None) (Refers n) y s → (a : Bool) → Leaves version path (above.Down n) a s u → R (if a then freed else k) u
     dropped_on s u held true e = free_all_runs u (locked (true, ns, None) y s u n apart held e.0 e.1)
     dropped_on s u held false e = on u (dropped (true, ns, None) y s u n apart held e.0 e.1)
 

@@ -1,5 +1,5 @@
 -- What is in hand, seat by seat.
-use Rattle.syscalls.proofs.Vocabulary.{◌≡◌, ◌≢◌, ℕ, List, [], Bool, true, false, Option, Some, None, refl, sym, ap, ◌∙◌, subst, ◌==◌, if◌then◌else◌, is_some, IsSome, MatchOption, option_map, Name, eq_is, eq_self, GuardState, Inode, Hand, InodePlace, One, Two, inode_at, reference_at, with_aside, with_inode, with_listed, with_reference, with_txn, IsEmpty, HasNoBuffer, unloaded, without_content, note_at, HasFound, free_seat, locks, other, refers, seat_of_lock, seat_of_reference, Note, Notes, Having}
+use Rattle.syscalls.proofs.Vocabulary.{◌≡◌, ◌≢◌, ℕ, List, [], Bool, true, false, Option, Some, None, refl, sym, ap, ◌∙◌, subst, ◌==◌, if◌then◌else◌, is_some, IsSome, MatchOption, option_map, Name, eq_is, eq_self, GuardState, Inode, Hand, InodePlace, One, Two, inode_at, reference_at, with_aside, with_inode, with_listed, with_reference, with_txn, IsEmpty, HasNoBuffer, unloaded, without_content, note_at, HasFound, free_seat, locks, other, refers, seat_of_lock, seat_of_reference, Note, Notes, Having, Version}
 
 -- At a seat: nothing, or a reference to inode n. Its lock too, with the record, and also with a name that was found;
 -- or without the record. Or the lock alone.
@@ -7,7 +7,7 @@ pub data Held : Type 0 where
   Nothing : Held
   Refers : ℕ → Held
   Locks : ℕ → Held
-  Finds : ℕ → List ℕ → Name → Held
+  Finds : Version → ℕ → List ℕ → Name → Held
   Freed : ℕ → Held
   Opens : ℕ → Held
 
@@ -18,7 +18,7 @@ abbrev pub IsHeldAt : Held → Option ℕ → Option (GuardState Inode) → Note
 IsHeldAt Nothing r o m = (r ≡ None) × (o ≡ None)
 IsHeldAt (Refers n) r o m = (r ≡ Some n) × (o ≡ None)
 IsHeldAt (Locks n) r o m = (r ≡ Some n) × (locks n o ≡ true) × IsLoaded o
-IsHeldAt (Finds n path e) r o m = (r ≡ Some n) × (locks n o ≡ true) × IsLoaded o × HasFound path e m
+IsHeldAt (Finds version n path e) r o m = (r ≡ Some n) × (locks n o ≡ true) × IsLoaded o × HasFound version path e m
 IsHeldAt (Freed n) r o m = (r ≡ Some n) × (locks n o ≡ true)
 IsHeldAt (Opens n) r o m = (r ≡ None) × (locks n o ≡ true) × IsLoaded o
 
@@ -49,7 +49,7 @@ abbrev pub Apart : ℕ → Held → Type 0
 Apart n Nothing = Unit {0}
 Apart n (Refers m) = Unit {0}
 Apart n (Locks m) = n ≢ m
-Apart n (Finds m path e) = n ≢ m
+Apart n (Finds version m path e) = n ≢ m
 Apart n (Freed m) = n ≢ m
 Apart n (Opens m) = n ≢ m
 
@@ -116,7 +116,7 @@ pub alone : (n : ℕ) (y : Held) (r : Option ℕ) (o : Option (GuardState Inode)
 alone n Nothing r o m apart held = no_lock n o held.1
 alone n (Refers j) r o m apart held = no_lock n o held.1
 alone n (Locks j) r o m apart held = another n j o held.1 apart
-alone n (Finds j path e) r o m apart held = another n j o held.1 apart
+alone n (Finds version j path e) r o m apart held = another n j o held.1 apart
 alone n (Freed j) r o m apart held = another n j o held.1 apart
 alone n (Opens j) r o m apart held = another n j o held.1 apart
 
@@ -157,7 +157,7 @@ module _ (t : Around) (n : ℕ) (h : Hand) (m : Notes) where
       let same : n ≡ j = let both : Some n ≡ Some j = sym e ∙ held.there.0 in cc both in
       record { here = (e, held.there.1); there = (held.here.0 ∙ ap (λ (j : ℕ). Some j) same, held.here.1); txn = held.txn; listed = held.listed; buffers = held.buffers; aside = held.aside }
   both (Locks j) apart e held = absurd (apart (let both : Some n ≡ Some j = sym e ∙ held.there.0 in cc both))
-  both (Finds j path x) apart e held = absurd (apart (let both : Some n ≡ Some j = sym e ∙ held.there.0 in cc both))
+  both (Finds version j path x) apart e held = absurd (apart (let both : Some n ≡ Some j = sym e ∙ held.there.0 in cc both))
   both (Freed j) apart e held = absurd (apart (let both : Some n ≡ Some j = sym e ∙ held.there.0 in cc both))
   both (Opens j) apart e held = absurd (let clash : Some n ≡ None = sym e ∙ held.there.0 in cc clash)
 
@@ -182,7 +182,7 @@ at_free t Nothing s closed (Two, held) =
     subst (λ (k : InodePlace). HeldAt k t Nothing Nothing s.hand s.notes) (sym (ap free_by held.there.0)) (record { here = held.there; there = held.here; txn = held.txn; listed = held.listed; buffers = held.buffers; aside = held.aside })
 at_free t (Refers j) s closed (Two, held) = subst (λ (k : InodePlace). HeldAt k t Nothing (Refers j) s.hand s.notes) (sym (ap free_by held.there.0)) held
 at_free t (Locks j) s closed (Two, held) = subst (λ (k : InodePlace). HeldAt k t Nothing (Locks j) s.hand s.notes) (sym (ap free_by held.there.0)) held
-at_free t (Finds j path e) s closed (Two, held) = subst (λ (k : InodePlace). HeldAt k t Nothing (Finds j path e) s.hand s.notes) (sym (ap free_by held.there.0)) held
+at_free t (Finds version j path e) s closed (Two, held) = subst (λ (k : InodePlace). HeldAt k t Nothing (Finds version j path e) s.hand s.notes) (sym (ap free_by held.there.0)) held
 at_free t (Freed j) s closed (Two, held) = subst (λ (k : InodePlace). HeldAt k t Nothing (Freed j) s.hand s.notes) (sym (ap free_by held.there.0)) held
 at_free t (Opens j) s closed (Two, held) = absurd closed
 

@@ -2,12 +2,16 @@
 pub use Rattle.inode_parts.proofs.Vocabulary.{AtEntries, AtName, AtNothing, BeginsWith, Bool, CameTo, Do, GuardState, HasFound, HasFreeSeat, HasLock, HasNoBuffer, HasOne, HasOpened, HasReference, Having, IfSome, IsAlone, IsCounted, IsEmpty, IsSome, LearnsFile, Leaves, List, MatchOption, MayLock, MayOpen, MayRefer, MayRelock, Name, None, OfDirectory, OfFile, Opened, Option, Query, ReferredOrAside, Ret, Sight, Some, InodeType, [], ap, arith, descriptor_count, dup_on, eq_is, eq_self, false, first_in, free_seat, full, if◌then◌else◌, inl, inode_at, inr, is_some, length, length-append, locks, nat_lt, nat_tests, not, note_at, option_map, other, read_on, read_reply, reference_at, refers, refl, say, seat_of_lock, seat_of_reference, subst, suc, sym, take, true, unloaded, unmarked, with_aside, with_first, with_inode, with_listed, with_reference, with_seated, with_txn, without_content, without_numbers, zero, ℕ, ◌++◌, ◌+◌, ◌-◌, ◌<◌, ◌==◌, ◌^◌, ◌∙◌, ◌∷◌, ◌≡◌, ◌≢◌, ◌≤◌, ◌⊎◌}
 unfoldable pub use Rattle.inode_parts.proofs.Vocabulary.{Runs}
 pub use Rattle.inode_machine.proofs.Vocabulary.{Begin, Face, Frees, Look, NoMemory, NotThere, Orphans, WalkStop, ThisP as P, always, bump_refused, bumps_if, chdir_at, clear_name, close_on, close_program, count_limit, create_found, create_in, creates, done, dot, dotdot, drop, dup_program, either, empties, entered_file, eq_isnt, eq_not, face_or, failed, file_for, filter, free_all, free_listed, give_up, in_parent, inherit_end, inherit_program, installed_on, installs, is_absolute, is_directory_face, is_directory_type, is_empty, is_live_face, is_missing, is_refused, is_there, joined_on, leave_directory, lend_from, lend_on, length-take, lent_directory, link_found, link_in, link_name, looks_if, looks_or_quits, looks_where, lower, lower_parent, make_on, make_other, make_with, makes, map, mends_if_full, mends_unless_new, mkdir_in, mkdir_on, mkdir_other, mkdir_refused, mkdir_with, name_directory, named_on, open_at, open_end, open_face, open_made, open_new, open_refusal, opened_reply, or_missing, own_step, piece_count, quits_unless, read_program, start, start_on, stat_on, stat_program, stat_reply, stopped, tail, take_descriptor, truncates, unlink_child, unlink_dots, unlink_found, unlink_in, unlink_named, unlink_other, unmake, walk, walk_parent, walk_step, with_last, write_from, write_piece, write_program, write_reply, wrote_on, ◌||◌}
-pub use Rattle.plain_tree.specs.VersionOne.{elements, name_len}
-pub use Rattle.inode_machine.specs.VersionOne.{chdir_program, link_at, link_program, link_raise, mkdir_program, open_old, open_program, unlink_program}
+pub use Rattle.plain_tree.specs.Tree.{elements}
+pub use Rattle.image_versions.specs.Versions.{name_len_of}
+pub use Rattle.image_versions.specs.declared.version.Version.{Version}
+pub use Rattle.inode_machine.specs.Moving.{chdir_program}
+pub use Rattle.inode_machine.specs.Naming.{link_at, link_program, link_raise, mkdir_program, unlink_program}
+pub use Rattle.inode_machine.specs.Opening.{open_old, open_program}
 unfoldable pub use Rattle.inode_machine.proofs.Vocabulary.{pieces, same_name}
 pub use Rattle.fs_machine.proofs.Vocabulary.{BufferState, HandFits, IsOwn, IsOwnInode, LeavesAll, LeavesTied, State, buffer_at}
 pub use Rattle.fs_layout.proofs.Vocabulary.{is_name_byte, list_all, nat_le}
-pub use Rattle.fs_layout.specs.VersionOne.{IsName, is_name}
+pub use Rattle.fs_layout.specs.Name.{IsName, is_name}
 pub use Rattle.whole_calls.specs.Wholes.{IsCall, IsPath}
 pub use Rattle.syscalls.specs.Machines.{Running, RunningFits}
 unfoldable pub use Rattle.syscalls.specs.Machines.{running_of}

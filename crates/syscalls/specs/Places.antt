@@ -12,8 +12,8 @@ call_at false m = None
 -- its first operation.
 abbrev pub HasBegun : Super → Call → Option Running → Type 0
 HasBegun sizes call None = ⊥
-HasBegun sizes call (Some m) = (running_of m ≡ lowered sizes nothing (program call)) × ((hart : ℕ) (s : State) → RunningFits hart s m)
-    × BeginsAsking sizes nothing (program call) m.control m.hand
+HasBegun sizes call (Some m) = (running_of m ≡ lowered sizes nothing (program sizes.version call)) × ((hart : ℕ) (s : State) → RunningFits hart s m)
+    × BeginsAsking sizes nothing (program sizes.version call) m.control m.hand
 
 -- what is left in the place: the call, or nothing once it has replied
 abbrev pub left_in : SteppedInPlace Reply Kind → Running → Option Running

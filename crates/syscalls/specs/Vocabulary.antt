@@ -1,5 +1,5 @@
 -- What the crates below call things: the words that this crate's definitions and contracts use.
-pub use Rattle.inode_parts.specs.Vocabulary.{IsCall, P, nothing, program}
+pub use Rattle.inode_parts.specs.Vocabulary.{IsCall, P, Version, nothing, program}
 pub use Rattle.fs_machine.specs.Vocabulary.{Still, stepped_at}
 pub use Rattle.fs_machine.specs.Steps.{State, state_of}
 pub use Rattle.atomic_programs.specs.Machines.{RestOrResult}

@@ -106,7 +106,7 @@ impl CallPlace {
     #[inline(always)]
     pub fn start(&mut self, sizes: &Super, call: Call)
         requires idle { self.old ≡ None }
-        requires call { IsCall call }
+        requires call { IsCall sizes.now.version call }
         requires sized { IsSized sizes.now }
         ensures { HasBegun sizes.now call self.new }
     {

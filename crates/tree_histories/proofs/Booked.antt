@@ -1,5 +1,5 @@
 -- The list that code keeps goes on as the theory's history does.
-use Rattle.tree_histories.proofs.Vocabulary.{◌≡◌, inl, inr, ℕ, zero, suc, ◌-◌, ◌^◌, ◌<◌, List, [], ◌∷◌, ◌++◌, map, map_push, replicate, get_or, length, Option, Some, None, refl, sym, ◌∙◌, ap, subst, arith, cases_eq, length_push, length-set, Reply, Call, Placed, ends_at, put, TreeData, hart_count, put_same, put_other, Deed, History, HartStanding, entry_of, replies, starts, tells, tells_any, writes, writes_any, Free, Busy, map_length, nothing_yet, IsBook, StandsAs, capped_entry, HasStarted, KeptTree, Under, capped, counted, hart_in, nothing_kept, passed, with_hart, written, written_by}
+use Rattle.tree_histories.proofs.Vocabulary.{Version, ◌≡◌, inl, inr, ℕ, zero, suc, ◌-◌, ◌^◌, ◌<◌, List, [], ◌∷◌, ◌++◌, map, map_push, replicate, get_or, length, Option, Some, None, refl, sym, ◌∙◌, ap, subst, arith, cases_eq, length_push, length-set, Reply, Call, Placed, ends_at, put, TreeData, hart_count, put_same, put_other, Deed, History, HartStanding, entry_of, replies, starts, tells, tells_any, writes, writes_any, Free, Busy, map_length, nothing_yet, IsBook, StandsAs, capped_entry, HasStarted, KeptTree, Under, capped, counted, hart_in, nothing_kept, passed, with_hart, written, written_by}
 use Rattle.tree_histories.proofs.Harts.{other_hart, same_hart}
 
 no_hart : (n g : ℕ) → get_or (replicate n (let o : Option Under = None in o)) g None ≡ None
@@ -11,13 +11,13 @@ stands_free : (o : Option Under) (s : HartStanding) → o ≡ None → StandsAs 
 stands_free o s is = subst (λ (x : Option Under). StandsAs x s) (sym is) tt
 
 -- nothing is kept beside nothing yet
-pub book_none : (t : TreeData) → IsBook (nothing_kept t) nothing_yet
-book_none t = record {
+pub book_none : (version : Version) (t : TreeData) → IsBook (nothing_kept version t) nothing_yet
+book_none version t = record {
   harts = refl;
   list = refl;
   events = refl;
   calls = refl;
-  stands = λ g gt. stands_free (hart_in (nothing_kept t) g) Free (no_hart hart_count g);
+  stands = λ g gt. stands_free (hart_in (nothing_kept version t) g) Free (no_hart hart_count g);
 }
 
 -- ---- an event passes, a call starts, one replies

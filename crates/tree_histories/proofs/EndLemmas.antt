@@ -1,19 +1,19 @@
 -- What can still come after a list.
-use Rattle.tree_histories.proofs.Vocabulary.{◌≡◌, ◌≢◌, ℕ, ◌≤◌, true, List, [], ◌∷◌, ◌++◌, refl, sym, ◌∙◌, ap, subst, append_assoc, inl, inr, arith, Option, Some, None, slice_get, append-nil, cases_Bool, cases_eq, Reply, Placed, Trace, TracedCall, Tree, Step, is_nothing, Act, next_of, Leads, AllBelong, Belongs, Chain, ChainBy, IsInTime, IsWritten, Rises, act_of, acts_of, Stand, CanEnd, IsOfCall, end_of}
+use Rattle.tree_histories.proofs.Vocabulary.{Version, ◌≡◌, ◌≢◌, ℕ, ◌≤◌, true, List, [], ◌∷◌, ◌++◌, refl, sym, ◌∙◌, ap, subst, append_assoc, inl, inr, arith, Option, Some, None, slice_get, append-nil, cases_Bool, cases_eq, Reply, Placed, Trace, TracedCall, Tree, Step, is_nothing, Act, next_of, Leads, AllBelong, Belongs, Chain, IsInTime, IsWritten, Rises, act_of, acts_of, Stand, CanEnd, IsOfCall, end_of}
 use Rattle.tree_histories.proofs.StandLemmas.{acts_none, acts_other, acts_own, push_other, push_own}
 use Rattle.plain_tree.proofs.CheckLemmas.{rises_more, belong_more}
 
-chain_more : (t u : Tree) (e : Placed) (es : List Placed) → Chain t (e ∷ es) u → (mid : Tree) × Step t e.step e.answer mid × Chain mid es u
-unfolding ChainBy
-chain_more t u e es h = h
+chain_more : (version : Version) (t u : Tree) (e : Placed) (es : List Placed) → Chain version t (e ∷ es) u → (mid : Tree) × Step version t e.step e.answer mid × Chain version mid es u
+unfolding Chain
+chain_more version t u e es h = h
 
 -- The first entry of a rest.
-pub record First (trace : Trace) (t : Tree) (list : List Placed) (lo : ℕ) (x : Placed) (rest : List Placed) : Type 0 where
+pub record First (version : Version) (trace : Trace) (t : Tree) (list : List Placed) (lo : ℕ) (x : Placed) (rest : List Placed) : Type 0 where
   pub low : lo ≤ x.event
   pub belongs : Belongs trace x
   pub mid : Tree
-  pub step : Step t x.step x.answer mid
-  pub later : CanEnd trace mid (list ++ x ∷ []) x.event rest
+  pub step : Step version t x.step x.answer mid
+  pub later : CanEnd version trace mid (list ++ x ∷ []) x.event rest
 
 moved : (list rest : List Placed) (x : Placed) (id : ℕ) → acts_of id list ++ acts_of id (x ∷ rest) ≡ acts_of id (list ++ x ∷ []) ++ acts_of id rest
 moved list rest x id = elim (cases_eq x.call id) [
@@ -21,11 +21,11 @@ moved list rest x id = elim (cases_eq x.call id) [
   | inr ne ↦ rw (acts_other id x rest ne, push_other id list x ne) refl
 ]
 
-pub first : (trace : Trace) (t : Tree) (list : List Placed) (lo : ℕ) (x : Placed) (rest : List Placed) → CanEnd trace t list lo (x ∷ rest) → First trace t list lo x rest
-first trace t list lo x rest can =
+pub first : (version : Version) (trace : Trace) (t : Tree) (list : List Placed) (lo : ℕ) (x : Placed) (rest : List Placed) → CanEnd version trace t list lo (x ∷ rest) → First version trace t list lo x rest
+first version trace t list lo x rest can =
     let rise : (lo ≤ x.event) × Rises x.event rest = rises_more lo x rest can.rises in
     let belong : Belongs trace x × AllBelong trace rest = belong_more trace x rest can.belongs in
-    let lead : (mid : Tree) × Step t x.step x.answer mid × Chain mid rest can.leads.0 = chain_more t can.leads.0 x rest can.leads.1 in record {
+    let lead : (mid : Tree) × Step version t x.step x.answer mid × Chain version mid rest can.leads.0 = chain_more version t can.leads.0 x rest can.leads.1 in record {
       low = rise.0;
       belongs = belong.0;
       mid = lead.0;
@@ -45,17 +45,17 @@ same_push list x y id c a = elim (cases_eq x.call id) [
 ]
 
 -- the same after another entry that acts alike
-pub can_swap : (trace : Trace) (t u : Tree) (list : List Placed) (x y : Placed) (lo : ℕ) (rest : List Placed) → x.call ≡ y.call → act_of x ≡ act_of y → t ≡ u → CanEnd trace t (list ++ x ∷ []) lo rest → CanEnd trace u (list ++ y ∷ []) lo rest
-can_swap trace t u list x y lo rest c a e can = record {
+pub can_swap : (version : Version) (trace : Trace) (t u : Tree) (list : List Placed) (x y : Placed) (lo : ℕ) (rest : List Placed) → x.call ≡ y.call → act_of x ≡ act_of y → t ≡ u → CanEnd version trace t (list ++ x ∷ []) lo rest → CanEnd version trace u (list ++ y ∷ []) lo rest
+can_swap version trace t u list x y lo rest c a e can = record {
   rises = can.rises;
-  leads = subst (λ (v : Tree). Leads v rest) e can.leads;
+  leads = subst (λ (v : Tree). Leads version v rest) e can.leads;
   written = λ id d is. subst (λ acts. IsWritten d.call (acts ++ acts_of id rest) d.finished) (same_push list x y id c a) (can.written id d is);
   belongs = can.belongs;
 }
 
 -- what of a call follows
-pub first_written : (trace : Trace) (t : Tree) (list : List Placed) (lo : ℕ) (x : Placed) (rest : List Placed) (c : TracedCall) → slice_get trace.calls x.call ≡ Some c → CanEnd trace t list lo (x ∷ rest) → IsWritten c.call (acts_of x.call list ++ act_of x ∷ acts_of x.call rest) c.finished
-first_written trace t list lo x rest c is can = subst (λ acts. IsWritten c.call (acts_of x.call list ++ acts) c.finished) (acts_own x.call x rest refl) (can.written x.call c is)
+pub first_written : (version : Version) (trace : Trace) (t : Tree) (list : List Placed) (lo : ℕ) (x : Placed) (rest : List Placed) (c : TracedCall) → slice_get trace.calls x.call ≡ Some c → CanEnd version trace t list lo (x ∷ rest) → IsWritten c.call (acts_of x.call list ++ act_of x ∷ acts_of x.call rest) c.finished
+first_written version trace t list lo x rest c is can = subst (λ acts. IsWritten c.call (acts_of x.call list ++ acts) c.finished) (acts_own x.call x rest refl) (can.written x.call c is)
 
 -- if the rest has something of a finished call, it begins by the call's end
 comes_by : (trace : Trace) (lo : ℕ) (rest : List Placed) (id : ℕ) (c : TracedCall) (r : ℕ × Reply) → slice_get trace.calls id ≡ Some c → c.finished ≡ Some r → Rises lo rest → AllBelong trace rest → acts_of id rest ≢ [] → lo ≤ r.0
@@ -102,12 +102,12 @@ goes_on c acts more s e is w = go c.finished refl is.end w where
   ]
 
 -- A rest begins by the end of each call that has to go on.
-pub begins_by : (trace : Trace) (t : Tree) (list : List Placed) (lo : ℕ) (rest : List Placed) (id : ℕ) (c : TracedCall) (s : Stand) (e : ℕ) → slice_get trace.calls id ≡ Some c → IsOfCall c (acts_of id list) s (Some e) → CanEnd trace t list lo rest → lo ≤ e
-begins_by trace t list lo rest id c s e at is can =
+pub begins_by : (version : Version) (trace : Trace) (t : Tree) (list : List Placed) (lo : ℕ) (rest : List Placed) (id : ℕ) (c : TracedCall) (s : Stand) (e : ℕ) → slice_get trace.calls id ≡ Some c → IsOfCall c (acts_of id list) s (Some e) → CanEnd version trace t list lo rest → lo ≤ e
+begins_by version trace t list lo rest id c s e at is can =
     let g = goes_on c (acts_of id list) (acts_of id rest) s e is (can.written id c at) in
     let le : lo ≤ g.0.0 = comes_by trace lo rest id c g.0 at g.1 can.rises can.belongs g.3 in
     omega (arith, g.2)
 
 -- If a call must go on, something must come.
-pub not_nothing : (trace : Trace) (t : Tree) (list : List Placed) (lo : ℕ) (id : ℕ) (c : TracedCall) (s : Stand) (e : ℕ) → slice_get trace.calls id ≡ Some c → IsOfCall c (acts_of id list) s (Some e) → CanEnd trace t list lo [] → ⊥
-not_nothing trace t list lo id c s e at is can = (goes_on c (acts_of id list) (acts_of id []) s e is (can.written id c at)).3 (acts_none id)
+pub not_nothing : (version : Version) (trace : Trace) (t : Tree) (list : List Placed) (lo : ℕ) (id : ℕ) (c : TracedCall) (s : Stand) (e : ℕ) → slice_get trace.calls id ≡ Some c → IsOfCall c (acts_of id list) s (Some e) → CanEnd version trace t list lo [] → ⊥
+not_nothing version trace t list lo id c s e at is can = (goes_on c (acts_of id list) (acts_of id []) s e is (can.written id c at)).3 (acts_none id)

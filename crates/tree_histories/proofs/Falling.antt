@@ -17,7 +17,7 @@ is_none None h = refl
 is_none (Some x) h = absurd cc
 
 pub lost_nobody : (k : KeptTree) (h : ℕ) → hart_in k h ≡ None → false ≡ is_lost (stage_of k) h
-lost_nobody k h is = sym (ap (λ (o : Option Under). not (is_nothing (lost (stage_of k).tree (walk_under o)))) is)
+lost_nobody k h is = sym (ap (λ (o : Option Under). not (is_nothing (lost (stage_of k).tree (walk_under k.version o)))) is)
 
 -- who has lost a walk has a call
 has_call : (k : KeptTree) (h : ℕ) → is_lost (stage_of k) h ≡ true → (u : Under) × (hart_in k h ≡ Some u)
@@ -56,15 +56,15 @@ one_false false b h = inr h
 
 -- an entry changes the list alone
 written_by_rest : (k : KeptTree) (h : ℕ) (d : Deed) (o : Option Under) → KeepsRest k (written_by k h d o)
-written_by_rest k h d None = (refl, refl)
-written_by_rest k h d (Some u) = (refl, refl)
+written_by_rest k h d None = (refl, refl, refl)
+written_by_rest k h d (Some u) = (refl, refl, refl)
 
 written_rest : (k : KeptTree) (h : ℕ) (d : Deed) → KeepsRest k (written k h d)
 written_rest k h d = written_by_rest k h d (hart_in k h)
 
 unless_rest : (k : KeptTree) (h : ℕ) (o : Option Deed) (was : Bool) → KeepsRest k (written_unless k h o was)
-unless_rest k h None was = (refl, refl)
-unless_rest k h (Some d) true = (refl, refl)
+unless_rest k h None was = (refl, refl, refl)
+unless_rest k h (Some d) true = (refl, refl, refl)
 unless_rest k h (Some d) false = written_rest k h d
 
 -- k0: as the walks begin to fail; k1: with those of the harts below n
@@ -111,7 +111,11 @@ module _ (before : List Bool) (k0 k1 : KeptTree) (n : ℕ) (lt : n < hart_count)
       stage = ap stage_of kept ∙ (stage_written k1 n d ∙ so_far.stage);
       book = book_now;
       none = λ were. absurd (let z : false ≡ true = sym not_yet ∙ (were n lt ∙ (sym now ∙ is)) in cc);
-      rest = let w = written_rest k1 n d in (ap (λ (x : KeptTree). x.harts) kept ∙ (w.0 ∙ so_far.rest.0), ap (λ (x : KeptTree). x.full) kept ∙ (w.1 ∙ so_far.rest.1));
+      rest = let w = written_rest k1 n d in (
+        ap (λ (x : KeptTree). x.harts) kept ∙ (w.0 ∙ so_far.rest.0),
+        ap (λ (x : KeptTree). x.full) kept ∙ (w.1 ∙ so_far.rest.1),
+        ap (λ (x : KeptTree). x.version) kept ∙ (w.2 ∙ so_far.rest.2),
+      );
     }
 
   pub fallen_now : (k2 : KeptTree) (r : Bool) → r ≡ (not (get_or before n false) && is_lost (stage_of k1) n) → r ≡ true
@@ -123,24 +127,24 @@ module _ (before : List Bool) (k0 k1 : KeptTree) (n : ℕ) (lt : n < hart_count)
 
 -- the failing step of a lost walk is the walk's own
 lost_is : (k : KeptTree) (h : ℕ) (u : Under) (w : Walk) (d : Deed) → hart_in k h ≡ Some u → u.walk ≡ Some w → lost_of (stage_of k) h ≡ Some d
-    → fail (walk_of (call_in u.whole) w).step ≡ d
+    → fail (walk_of k.version (call_in u.whole) w).step ≡ d
 lost_is k h u w d there on fails =
     by_live (live_directory ((stage_of k).tree.nodes w.directory))
-    (sym (ap (λ (o : Option Under). lost (stage_of k).tree (walk_under o)) there ∙ ap (λ (o : Option Walk). lost (stage_of k).tree (option_map (walk_of (call_in u.whole)) o)) on) ∙ fails)
+    (sym (ap (λ (o : Option Under). lost (stage_of k).tree (walk_under k.version o)) there ∙ ap (λ (o : Option Walk). lost (stage_of k).tree (option_map (walk_of k.version (call_in u.whole)) o)) on) ∙ fails)
   where
-    by_live : (b : Bool) → ◌≡◌ {A = Option Deed} (if b then None else Some (fail (walk_of (call_in u.whole) w).step)) (Some d) → fail (walk_of (call_in u.whole) w).step ≡ d
+    by_live : (b : Bool) → ◌≡◌ {A = Option Deed} (if b then None else Some (fail (walk_of k.version (call_in u.whole) w).step)) (Some d) → fail (walk_of k.version (call_in u.whole) w).step ≡ d
     by_live true q = absurd cc
     by_live false q = cc
 
 pub walk_fails : {E : Type 0} (r : Result (Unit {0}) E) (k k' : KeptTree) (h : ℕ) (u : Under) (w : Walk) (a : Action) (x : Deed) → hart_in k h ≡ Some u → u.walk ≡ Some w
-    → a ≡ (walk_of (call_in u.whole) w).step → x ≡ fail a → IfOk r (λ _. k' ≡ written k h x) → (d : Deed) → lost_of (stage_of k) h ≡ Some d → IfOk r (λ _. k' ≡ written k h d)
+    → a ≡ (walk_of k.version (call_in u.whole) w).step → x ≡ fail a → IfOk r (λ _. k' ≡ written k h x) → (d : Deed) → lost_of (stage_of k) h ≡ Some d → IfOk r (λ _. k' ≡ written k h d)
 walk_fails (Err e) k k' h u w a x there on is failed kept d fails = tt
 walk_fails (Ok v) k k' h u w a x there on is failed kept d fails =
     kept ∙ ap (λ (y : Deed). written k h y) (failed ∙ (ap fail is ∙ lost_is k h u w d there on fails))
 
 pub fallen_first : (before : List Bool) (k : KeptTree) → Fallen before k k 0
 unfolding all_fall
-fallen_first before k = record { stage = refl; book = λ m b were B. B; none = λ were. refl; rest = (refl, refl) }
+fallen_first before k = record { stage = refl; book = λ m b were B. B; none = λ were. refl; rest = (refl, refl, refl) }
 
 -- the walks that are lost, as far as they were looked at
 pub lost_more : (m : Stage) (xs : List Bool) (n i : ℕ) (b : Bool) → i ≡ n → n < 8 → b ≡ is_lost m n → (length xs ≡ 8) × ((h : ℕ) → h < n → get_or xs h false ≡ is_lost m h)
@@ -224,10 +228,10 @@ or_false false = refl
 -- k0: before the move; k1: the tree has made it; k2: what it tells is written; k3: the walks that it loses have failed
 module _ (k0 k1 k2 k3 : KeptTree) (h : ℕ) (m : Mark) (d : Option Deed) (was : Bool) (before : List Bool) (were : WereLost before (stage_of k0)) (kept : k2 ≡ told_in k1 h m d was) where
   makes_so : OnlyMoves k0 k1 → TellsOf k0 h m d k1 → was ≡ is_lost (stage_of k0) h → stage_of k3 ≡ stage_of k2 → HaveFallen before k2 k3 → KeepsRest k2 k3
-      → (u : Under) (v : Move) → hart_in k0 h ≡ Some u → mark_in (action_in u.whole) m ≡ Makes v → MayMake (stage_of k0) h v → IsMoved k0 h v k3
+      → (u : Under) (v : Move) → hart_in k0 h ≡ Some u → mark_in (action_in u.whole) m ≡ Makes v → MayMake k0.version (stage_of k0) h v → IsMoved k0 h v k3
   makes_so only tells is_was same fallen rest u v is made may =
       let t : Tells k0 h v d k1 = tells u v is made may in
-      let stage2 : stage_of k2 ≡ stage_by (stage_of k0) h t.id v = ap stage_of kept ∙ (told_stage k1 h m d was ∙ t.stage) in
+      let stage2 : stage_of k2 ≡ stage_by k0.version (stage_of k0) h t.id v = ap stage_of kept ∙ (told_stage k1 h m d was ∙ t.stage) in
       record {
         id = t.id;
         least = t.least;
@@ -235,7 +239,7 @@ module _ (k0 k1 k2 k3 : KeptTree) (h : ℕ) (m : Mark) (d : Option Deed) (was : 
         full = rest.1 ∙ (ap (λ (x : KeptTree). x.full) kept
             ∙ ((λ i. t.full i || makes_room (action_in u.whole) m v made i) ∙ or_false k0.full));
         book = λ b B.
-            let told : Option Deed = told_by_move (stage_of k0) h t.id v in
+            let told : Option Deed = told_by_move k0.version (stage_of k0) h t.id v in
             let book2 : IsBook k2 (writes_any (unless (lost_of (stage_of k0) h) told) h b) =
             subst (λ (x : KeptTree). IsBook x (writes_any (unless (lost_of (stage_of k0) h) told) h b)) (sym kept)
             (book_full (written_unless k1 h d was) _ (k1.full || spoils m) (told_book k0 k1 h may.hart u is only b B told d was t.told is_was)) in
@@ -266,6 +270,7 @@ module _ (k0 k1 k2 k3 : KeptTree) (h : ℕ) (m : Mark) (d : Option Deed) (was : 
     still = still_so stays none;
     calls = calls_so only rest;
     grows = λ known. full_is rest ∙ ap (λ (b : Bool). b || spoils m) (only.grows known);
+    version = rest.2 ∙ (ap (λ (x : KeptTree). x.version) kept ∙ ((unless_rest k1 h d was).2 ∙ only.version));
   }
 
 pub moves_on_so : {E : Type 0} (r : Result (Unit {0}) E) (k0 k1 k2 k3 : KeptTree) (h : ℕ) (m : Mark) (d : Option Deed) (was : Bool) (before : List Bool) → WereLost before (stage_of k0) → k2 ≡ told_in k1 h m d was

@@ -1,5 +1,5 @@
 -- A list with one entry more, or one less.
-use Rattle.tree_histories.proofs.Vocabulary.{◌≡◌, ◌≢◌, ℕ, zero, suc, ◌+◌, ◌-◌, ◌<◌, ◌≤◌, ◌==◌, nat_lt, List, [], ◌∷◌, ◌++◌, take, length, get_or, refl, sym, ◌∙◌, ap, subst, inl, inr, arith, Option, Some, None, if◌then◌else◌, slice_get, length_push, take_all, take_more, get_or_from_slice_get, slice_get-get_or, slice_get_within, cases_Bool, nat_tests, Call, Open, Read, Write, Link, Unlink, Mkdir, Chdir, Dup, Fstat, Close, Inherit, Action, Placed, Trace, TracedCall, Tree, Step, piece_count, AllBelong, Belongs, Chain, ChainBy, Rises, act_of, acts_of, Stand, next_from, last_event, left, most}
+use Rattle.tree_histories.proofs.Vocabulary.{Version, ◌≡◌, ◌≢◌, ℕ, zero, suc, ◌+◌, ◌-◌, ◌<◌, ◌≤◌, ◌==◌, nat_lt, List, [], ◌∷◌, ◌++◌, take, length, get_or, refl, sym, ◌∙◌, ap, subst, inl, inr, arith, Option, Some, None, if◌then◌else◌, slice_get, length_push, take_all, take_more, get_or_from_slice_get, slice_get-get_or, slice_get_within, cases_Bool, nat_tests, Call, Open, Read, Write, Link, Unlink, Mkdir, Chdir, Dup, Fstat, Close, Inherit, Action, Placed, Trace, TracedCall, Tree, Step, piece_count, AllBelong, Belongs, Chain, Rises, act_of, acts_of, Stand, next_from, last_event, left, most}
 use Rattle.tree_histories.proofs.StandLemmas.{push_other, push_own}
 
 -- The last event.
@@ -76,23 +76,23 @@ belong_front t (e ∷ es) x h = (let y : AllBelong t es × Belongs t x = belong_
 
 -- Chains.
 
-pub chain_push : (t u v : Tree) (es : List Placed) (x : Placed) → Chain t es u → Step u x.step x.answer v → Chain t (es ++ x ∷ []) v
-unfolding ChainBy
-chain_push t u v [] x h s = (v, subst (λ (w : Tree). Step w x.step x.answer v) (sym h) s, refl)
-chain_push t u v (e ∷ es) x h s = (h.0, h.1, chain_push h.0 u v es x h.2 s)
+pub chain_push : (version : Version) (t u v : Tree) (es : List Placed) (x : Placed) → Chain version t es u → Step version u x.step x.answer v → Chain version t (es ++ x ∷ []) v
+unfolding Chain
+chain_push version t u v [] x h s = (v, subst (λ (w : Tree). Step version w x.step x.answer v) (sym h) s, refl)
+chain_push version t u v (e ∷ es) x h s = (h.0, h.1, chain_push version h.0 u v es x h.2 s)
 
-pub chain_split : (t u : Tree) (es fs : List Placed) → Chain t (es ++ fs) u → (mid : Tree) × Chain t es mid × Chain mid fs u
-unfolding ChainBy
-chain_split t u [] fs h = (t, refl, h)
-chain_split t u (e ∷ es) fs h = (let x : (mid : Tree) × Chain h.0 es mid × Chain mid fs u = chain_split h.0 u es fs h.2 in (x.0, (h.0, h.1, x.1), x.2))
+pub chain_split : (version : Version) (t u : Tree) (es fs : List Placed) → Chain version t (es ++ fs) u → (mid : Tree) × Chain version t es mid × Chain version mid fs u
+unfolding Chain
+chain_split version t u [] fs h = (t, refl, h)
+chain_split version t u (e ∷ es) fs h = (let x : (mid : Tree) × Chain version h.0 es mid × Chain version mid fs u = chain_split version h.0 u es fs h.2 in (x.0, (h.0, h.1, x.1), x.2))
 
-pub chain_none : (t : Tree) → Chain t [] t
-unfolding ChainBy
-chain_none t = refl
+pub chain_none : (version : Version) (t : Tree) → Chain version t [] t
+unfolding Chain
+chain_none version t = refl
 
-pub chain_first : (t u : Tree) (x : Placed) (es : List Placed) → Chain t (x ∷ es) u → (mid : Tree) × Step t x.step x.answer mid × Chain mid es u
-unfolding ChainBy
-chain_first t u x es h = h
+pub chain_first : (version : Version) (t u : Tree) (x : Placed) (es : List Placed) → Chain version t (x ∷ es) u → (mid : Tree) × Step version t x.step x.answer mid × Chain version mid es u
+unfolding Chain
+chain_first version t u x es h = h
 
 -- How many steps may still come.
 

@@ -1,5 +1,5 @@
 -- A list that begins to explain a trace: with one entry more, with one less, and what it rules out.
-use Rattle.tree_histories.proofs.Vocabulary.{◌≡◌, ◌≢◌, ℕ, ◌<◌, ◌≤◌, List, [], ◌∷◌, ◌++◌, length, get_or, set, sym, ◌∙◌, ap, subst, inl, inr, arith, Option, Some, None, slice_get, get_or-set_other, get_or-set_same, get_or_past, slice_get_cases, cases_eq, Reply, Action, StepAnswer, Placed, Trace, TracedCall, TreeData, Tree, tree_of, IsInPlace, IsNewNode, Step, IsApplied, IsBadChoice, Act, next_of, IsInTime, IsWritten, act_of, acts_of, step_placed, Due, Position, Stand, after, next_from, start, IsDue, AreOfCalls, CanEnd, Fits, IsAt, IsDeadWith, IsOfCall, IsTimely, NeedsNumber, last_event, most}
+use Rattle.tree_histories.proofs.Vocabulary.{Version, ◌≡◌, ◌≢◌, ℕ, ◌<◌, ◌≤◌, List, [], ◌∷◌, ◌++◌, length, get_or, set, sym, ◌∙◌, ap, subst, inl, inr, arith, Option, Some, None, slice_get, get_or-set_other, get_or-set_same, get_or_past, slice_get_cases, cases_eq, Reply, Action, StepAnswer, Placed, Trace, TracedCall, TreeData, Tree, tree_of, IsInPlace, IsNewNode, Step, IsApplied, IsBadChoice, Act, next_of, IsInTime, IsWritten, act_of, acts_of, step_placed, Due, Position, Stand, after, next_from, start, IsDue, AreOfCalls, CanEnd, Fits, IsAt, IsDeadWith, IsOfCall, IsTimely, NeedsNumber, last_event, most}
 use Rattle.tree_histories.proofs.StandLemmas.{next_is, push_other, push_own}
 use Rattle.tree_histories.proofs.CallLemmas.{some_not, written_fits, written_next}
 use Rattle.tree_histories.proofs.StepLemmas.{applied_is, numbered}
@@ -54,8 +54,8 @@ pub record Ended (t : Trace) (ends : List (Option ℕ)) (id e : ℕ) : Type 0 wh
   pub call : TracedCall
   pub is : slice_get t.calls id ≡ Some call
 
-pub ended : (base : TreeData) (t : Trace) (p : Position) (id e : ℕ) → IsAt base t p → get_or p.ends id None ≡ Some e → Ended t p.ends id e
-ended base t p id e at h = elim (slice_get_cases t.calls id).1 [
+pub ended : (version : Version) (base : TreeData) (t : Trace) (p : Position) (id e : ℕ) → IsAt version base t p → get_or p.ends id None ≡ Some e → Ended t p.ends id e
+ended version base t p id e at h = elim (slice_get_cases t.calls id).1 [
   | inl x ↦ record { call = x.0; is = x.2 }
   | inr x ↦ absurd (let le : length p.ends ≤ id = omega (arith, at.ends, x.0) in let z : None ≡ Some e = sym (get_or_past p.ends id None le) ∙ h in cc)
 ]
@@ -63,7 +63,7 @@ ended base t p id e at h = elim (slice_get_cases t.calls id).1 [
 -- ---- what may come next
 
 -- the entry x of the call id, with a rest, may come after the list
-pub record Coming (t : Trace) (p : Position) (id : ℕ) (c : TracedCall) (x : Placed) (rest : List Placed) : Type 0 where
+pub record Coming (version : Version) (t : Trace) (p : Position) (id : ℕ) (c : TracedCall) (x : Placed) (rest : List Placed) : Type 0 where
   pub low : last_event p.list.items ≤ x.event
   pub started : c.start ≤ x.event
   pub hart : x.step.hart ≡ c.hart
@@ -71,20 +71,20 @@ pub record Coming (t : Trace) (p : Position) (id : ℕ) (c : TracedCall) (x : Pl
   pub next : next_from c.call (get_or p.stands.items id start) ≡ Some x.step.action
   pub written : IsWritten c.call (acts_of id p.list.items ++ act_of x ∷ acts_of id rest) c.finished
   pub mid : Tree
-  pub step : Step (tree_of p.tree) (record { hart = c.hart; new = x.step.new; action = x.step.action }) x.answer mid
-  pub later : CanEnd t mid (p.list.items ++ x ∷ []) x.event rest
-  pub again : CanEnd t (tree_of p.tree) p.list.items x.event (x ∷ rest)
+  pub step : Step version (tree_of p.tree) (record { hart = c.hart; new = x.step.new; action = x.step.action }) x.answer mid
+  pub later : CanEnd version t mid (p.list.items ++ x ∷ []) x.event rest
+  pub again : CanEnd version t (tree_of p.tree) p.list.items x.event (x ∷ rest)
 
-coming_call : (t : Trace) (p : Position) (id lo : ℕ) (c : TracedCall) (x : Placed) (rest : List Placed) (b : First t (tree_of p.tree) p.list.items lo x rest) → x.call ≡ id → slice_get t.calls id ≡ Some c → b.belongs.traced ≡ c
-coming_call t p id lo c x rest b own is = one_some (slice_get t.calls id) b.belongs.traced c (ap (λ j. slice_get t.calls j) (sym own) ∙ b.belongs.is) is
+coming_call : (version : Version) (t : Trace) (p : Position) (id lo : ℕ) (c : TracedCall) (x : Placed) (rest : List Placed) (b : First version t (tree_of p.tree) p.list.items lo x rest) → x.call ≡ id → slice_get t.calls id ≡ Some c → b.belongs.traced ≡ c
+coming_call version t p id lo c x rest b own is = one_some (slice_get t.calls id) b.belongs.traced c (ap (λ j. slice_get t.calls j) (sym own) ∙ b.belongs.is) is
 
-pub coming : (base : TreeData) (t : Trace) (p : Position) (id lo : ℕ) (c : TracedCall) (x : Placed) (rest : List Placed) → IsAt base t p → slice_get t.calls id ≡ Some c → last_event p.list.items ≤ lo → x.call ≡ id → CanEnd t (tree_of p.tree) p.list.items lo (x ∷ rest) → Coming t p id c x rest
-coming base t p id lo c x rest at is low own can =
-    let b : First t (tree_of p.tree) p.list.items lo x rest = first t (tree_of p.tree) p.list.items lo x rest can in
-    let same : b.belongs.traced ≡ c = coming_call t p id lo c x rest b own is in
+pub coming : (version : Version) (base : TreeData) (t : Trace) (p : Position) (id lo : ℕ) (c : TracedCall) (x : Placed) (rest : List Placed) → IsAt version base t p → slice_get t.calls id ≡ Some c → last_event p.list.items ≤ lo → x.call ≡ id → CanEnd version t (tree_of p.tree) p.list.items lo (x ∷ rest) → Coming version t p id c x rest
+coming version base t p id lo c x rest at is low own can =
+    let b : First version t (tree_of p.tree) p.list.items lo x rest = first version t (tree_of p.tree) p.list.items lo x rest can in
+    let same : b.belongs.traced ≡ c = coming_call version t p id lo c x rest b own is in
     let hart : x.step.hart ≡ c.hart = b.belongs.hart ∙ ap (λ (d : TracedCall). d.hart) same in
     let here : slice_get t.calls x.call ≡ Some c = ap (λ j. slice_get t.calls j) own ∙ is in
-    let w : IsWritten c.call (acts_of id p.list.items ++ act_of x ∷ acts_of id rest) c.finished = subst (λ j. IsWritten c.call (acts_of j p.list.items ++ act_of x ∷ acts_of j rest) c.finished) own (first_written t (tree_of p.tree) p.list.items lo x rest c here can) in
+    let w : IsWritten c.call (acts_of id p.list.items ++ act_of x ∷ acts_of id rest) c.finished = subst (λ j. IsWritten c.call (acts_of j p.list.items ++ act_of x ∷ acts_of j rest) c.finished) own (first_written version t (tree_of p.tree) p.list.items lo x rest c here can) in
     let of : IsOfCall c (acts_of id p.list.items) (get_or p.stands.items id start) (get_or p.ends id None) = at.calls id c is in
     let n : next_of c.call (acts_of id p.list.items) ≡ Some x.step.action = written_next c.finished c.call (acts_of id p.list.items) (act_of x) (acts_of id rest) w in
     let le : c.start ≤ x.event = subst (λ (d : TracedCall). d.start ≤ x.event) same b.belongs.after_start in
@@ -96,17 +96,17 @@ coming base t p id lo c x rest at is low own can =
       next = ap (λ (s : Stand). next_from c.call s) of.stand ∙ (sym (next_is c.call (acts_of id p.list.items)) ∙ n);
       written = w;
       mid = b.mid;
-      step = subst (λ (h : ℕ). Step (tree_of p.tree) (record { hart = h; new = x.step.new; action = x.step.action }) x.answer b.mid) hart b.step;
+      step = subst (λ (h : ℕ). Step version (tree_of p.tree) (record { hart = h; new = x.step.new; action = x.step.action }) x.answer b.mid) hart b.step;
       later = b.later;
       again = record { rises = rises_cons x.event x rest (omega arith) (b.later.rises); leads = can.leads; written = can.written; belongs = can.belongs };
     }
 
 -- It may be numbered by any event between the last one and its own.
-pub timely : (base : TreeData) (t : Trace) (p : Position) (id event : ℕ) (d : Due) (c : TracedCall) (x : Placed) (rest : List Placed) → IsAt base t p → IsDue p.ends d → event ≤ x.event → Coming t p id c x rest → IsTimely c.finished event d.limit t.events
-timely base t p id event d c x rest at due le come =
-    let end : Ended t p.ends d.id d.limit = ended base t p d.id d.limit at due.end in
+pub timely : (version : Version) (base : TreeData) (t : Trace) (p : Position) (id event : ℕ) (d : Due) (c : TracedCall) (x : Placed) (rest : List Placed) → IsAt version base t p → IsDue p.ends d → event ≤ x.event → Coming version t p id c x rest → IsTimely c.finished event d.limit t.events
+timely version base t p id event d c x rest at due le come =
+    let end : Ended t p.ends d.id d.limit = ended version base t p d.id d.limit at due.end in
     let of : IsOfCall end.call (acts_of d.id p.list.items) (get_or p.stands.items d.id start) (Some d.limit) = subst (λ e. IsOfCall end.call (acts_of d.id p.list.items) (get_or p.stands.items d.id start) e) due.end (at.calls d.id end.call end.is) in
-    let by : x.event ≤ d.limit = begins_by t (tree_of p.tree) p.list.items x.event (x ∷ rest) d.id end.call (get_or p.stands.items d.id start) d.limit end.is of come.again in
+    let by : x.event ≤ d.limit = begins_by version t (tree_of p.tree) p.list.items x.event (x ∷ rest) d.id end.call (get_or p.stands.items d.id start) d.limit end.is of come.again in
     go c.finished come.until by where
       go : (f : Option (ℕ × Reply)) → IsInTime t.events x.event f → x.event ≤ d.limit → IsTimely f event d.limit t.events
       go None u by = (let v : x.event < t.events = u in (omega arith, omega arith))
@@ -115,55 +115,55 @@ timely base t p id event d c x rest at due le come =
 -- ---- what is ruled out
 
 -- with an event between
-pub not_timely : (base : TreeData) (t : Trace) (p : Position) (id new event : ℕ) (d : Due) (c : TracedCall) → IsAt base t p → IsDue p.ends d → slice_get t.calls id ≡ Some c
-    → ((n : ℕ) → last_event p.list.items ≤ n → c.start ≤ n → event ≤ n) → (IsTimely c.finished event d.limit t.events → ⊥) → IsDeadWith t p id new
-not_timely base t p id new event d c at due is most not lo x rest low own same can =
-    let come : Coming t p id c x rest = coming base t p id lo c x rest at is low own can in
-    not (timely base t p id event d c x rest at due (most x.event come.low come.started) come)
+pub not_timely : (version : Version) (base : TreeData) (t : Trace) (p : Position) (id new event : ℕ) (d : Due) (c : TracedCall) → IsAt version base t p → IsDue p.ends d → slice_get t.calls id ≡ Some c
+    → ((n : ℕ) → last_event p.list.items ≤ n → c.start ≤ n → event ≤ n) → (IsTimely c.finished event d.limit t.events → ⊥) → IsDeadWith version t p id new
+not_timely version base t p id new event d c at due is most not lo x rest low own same can =
+    let come : Coming version t p id c x rest = coming version base t p id lo c x rest at is low own can in
+    not (timely version base t p id event d c x rest at due (most x.event come.low come.started) come)
 
-pub no_call : (t : Trace) (p : Position) (id new : ℕ) → slice_get t.calls id ≡ None → IsDeadWith t p id new
-no_call t p id new none lo x rest low own same can =
-    let b : First t (tree_of p.tree) p.list.items lo x rest = first t (tree_of p.tree) p.list.items lo x rest can in
+pub no_call : (version : Version) (t : Trace) (p : Position) (id new : ℕ) → slice_get t.calls id ≡ None → IsDeadWith version t p id new
+no_call version t p id new none lo x rest low own same can =
+    let b : First version t (tree_of p.tree) p.list.items lo x rest = first version t (tree_of p.tree) p.list.items lo x rest can in
     some_not (slice_get t.calls id) b.belongs.traced none (ap (λ j. slice_get t.calls j) (sym own) ∙ b.belongs.is)
 
-pub no_next : (base : TreeData) (t : Trace) (p : Position) (id new : ℕ) (c : TracedCall) → IsAt base t p → slice_get t.calls id ≡ Some c → next_from c.call (get_or p.stands.items id start) ≡ None → IsDeadWith t p id new
-no_next base t p id new c at is none lo x rest low own same can =
-    let come : Coming t p id c x rest = coming base t p id lo c x rest at is low own can in
+pub no_next : (version : Version) (base : TreeData) (t : Trace) (p : Position) (id new : ℕ) (c : TracedCall) → IsAt version base t p → slice_get t.calls id ≡ Some c → next_from c.call (get_or p.stands.items id start) ≡ None → IsDeadWith version t p id new
+no_next version base t p id new c at is none lo x rest low own same can =
+    let come : Coming version t p id c x rest = coming version base t p id lo c x rest at is low own can in
     some_not (next_from c.call (get_or p.stands.items id start)) x.step.action none come.next
 
 -- the step that comes next, with its number
-pub coming_step : (t : Trace) (p : Position) (id : ℕ) (c : TracedCall) (x : Placed) (rest : List Placed) (a : Action) → next_from c.call (get_or p.stands.items id start) ≡ Some a → (come : Coming t p id c x rest) → Step (tree_of p.tree) (record { hart = c.hart; new = x.step.new; action = a }) x.answer come.mid
-coming_step t p id c x rest a next come = subst (λ (b : Action). Step (tree_of p.tree) (record { hart = c.hart; new = x.step.new; action = b }) x.answer come.mid) (one_some (next_from c.call (get_or p.stands.items id start)) x.step.action a come.next next) come.step
+pub coming_step : (version : Version) (t : Trace) (p : Position) (id : ℕ) (c : TracedCall) (x : Placed) (rest : List Placed) (a : Action) → next_from c.call (get_or p.stands.items id start) ≡ Some a → (come : Coming version t p id c x rest) → Step version (tree_of p.tree) (record { hart = c.hart; new = x.step.new; action = a }) x.answer come.mid
+coming_step version t p id c x rest a next come = subst (λ (b : Action). Step version (tree_of p.tree) (record { hart = c.hart; new = x.step.new; action = b }) x.answer come.mid) (one_some (next_from c.call (get_or p.stands.items id start)) x.step.action a come.next next) come.step
 
-pub no_place : (base : TreeData) (t : Trace) (p : Position) (id new : ℕ) (c : TracedCall) (a : Action) → IsAt base t p → slice_get t.calls id ≡ Some c → next_from c.call (get_or p.stands.items id start) ≡ Some a → (IsInPlace (tree_of p.tree) c.hart a → ⊥) → IsDeadWith t p id new
-no_place base t p id new c a at is next not lo x rest low own same can =
-    let come : Coming t p id c x rest = coming base t p id lo c x rest at is low own can in
-    not (step_placed (tree_of p.tree) (record { hart = c.hart; new = x.step.new; action = a }) x.answer come.mid (coming_step t p id c x rest a next come))
+pub no_place : (version : Version) (base : TreeData) (t : Trace) (p : Position) (id new : ℕ) (c : TracedCall) (a : Action) → IsAt version base t p → slice_get t.calls id ≡ Some c → next_from c.call (get_or p.stands.items id start) ≡ Some a → (IsInPlace (tree_of p.tree) c.hart a → ⊥) → IsDeadWith version t p id new
+no_place version base t p id new c a at is next not lo x rest low own same can =
+    let come : Coming version t p id c x rest = coming version base t p id lo c x rest at is low own can in
+    not (step_placed version (tree_of p.tree) (record { hart = c.hart; new = x.step.new; action = a }) x.answer come.mid (coming_step version t p id c x rest a next come))
 
-pub bad_numbers : (base : TreeData) (t : Trace) (p : Position) (id new : ℕ) (c : TracedCall) (a : Action) → IsAt base t p → slice_get t.calls id ≡ Some c → next_from c.call (get_or p.stands.items id start) ≡ Some a → IsBadChoice (tree_of p.tree) (record { hart = c.hart; new = new; action = a }) → NeedsNumber t p id
-bad_numbers base t p id new c a at is next bad lo x rest low own can =
-    let come : Coming t p id c x rest = coming base t p id lo c x rest at is low own can in
-    let n = numbered (tree_of p.tree) c.hart x.step.new a x.answer come.mid bad.not_refused bad.makes (coming_step t p id c x rest a next come) in
+pub bad_numbers : (version : Version) (base : TreeData) (t : Trace) (p : Position) (id new : ℕ) (c : TracedCall) (a : Action) → IsAt version base t p → slice_get t.calls id ≡ Some c → next_from c.call (get_or p.stands.items id start) ≡ Some a → IsBadChoice version (tree_of p.tree) (record { hart = c.hart; new = new; action = a }) → NeedsNumber version t p id
+bad_numbers version base t p id new c a at is next bad lo x rest low own can =
+    let come : Coming version t p id c x rest = coming version base t p id lo c x rest at is low own can in
+    let n = numbered version (tree_of p.tree) c.hart x.step.new a x.answer come.mid bad.not_refused bad.makes (coming_step version t p id c x rest a next come) in
     (n.from, n.below)
 
-pub bad_dead : (base : TreeData) (t : Trace) (p : Position) (id new : ℕ) (c : TracedCall) (a : Action) → IsAt base t p → slice_get t.calls id ≡ Some c → next_from c.call (get_or p.stands.items id start) ≡ Some a → IsBadChoice (tree_of p.tree) (record { hart = c.hart; new = new; action = a }) → new ≢ 0 → IsDeadWith t p id new
-bad_dead base t p id new c a at is next bad some lo x rest low own same can =
-    let come : Coming t p id c x rest = coming base t p id lo c x rest at is low own can in
-    let n = numbered (tree_of p.tree) c.hart x.step.new a x.answer come.mid bad.not_refused bad.makes (coming_step t p id c x rest a next come) in
+pub bad_dead : (version : Version) (base : TreeData) (t : Trace) (p : Position) (id new : ℕ) (c : TracedCall) (a : Action) → IsAt version base t p → slice_get t.calls id ≡ Some c → next_from c.call (get_or p.stands.items id start) ≡ Some a → IsBadChoice version (tree_of p.tree) (record { hart = c.hart; new = new; action = a }) → new ≢ 0 → IsDeadWith version t p id new
+bad_dead version base t p id new c a at is next bad some lo x rest low own same can =
+    let come : Coming version t p id c x rest = coming version base t p id lo c x rest at is low own can in
+    let n = numbered version (tree_of p.tree) c.hart x.step.new a x.answer come.mid bad.not_refused bad.makes (coming_step version t p id c x rest a next come) in
     bad.bad (subst (λ (k : ℕ). IsNewNode (tree_of p.tree) k) (same some) n)
 
 -- what the step was applied to is what may come
-pub record Applied (t : Trace) (p : Position) (id : ℕ) (c : TracedCall) (x : Placed) (rest : List Placed) (a : Action) (b : StepAnswer) (u : Tree) : Type 0 where
+pub record Applied (version : Version) (t : Trace) (p : Position) (id : ℕ) (c : TracedCall) (x : Placed) (rest : List Placed) (a : Action) (b : StepAnswer) (u : Tree) : Type 0 where
   pub action : x.step.action ≡ a
   pub answer : x.answer ≡ b
   pub tree : Tree
   pub is : tree ≡ u
-  pub later : CanEnd t tree (p.list.items ++ x ∷ []) x.event rest
+  pub later : CanEnd version t tree (p.list.items ++ x ∷ []) x.event rest
 
-pub applied : (t : Trace) (p : Position) (id new : ℕ) (c : TracedCall) (x : Placed) (rest : List Placed) (a : Action) (b : StepAnswer) (u : Tree) → next_from c.call (get_or p.stands.items id start) ≡ Some a → IsInPlace (tree_of p.tree) c.hart a
-    → IsApplied (tree_of p.tree) (record { hart = c.hart; new = new; action = a }) b u → (new ≢ 0 → x.step.new ≡ new) → Coming t p id c x rest → Applied t p id c x rest a b u
-applied t p id new c x rest a b u next place made same come =
-    let is = applied_is (tree_of p.tree) c.hart new a b u x.step.new x.answer come.mid place same made (coming_step t p id c x rest a next come) in record {
+pub applied : (version : Version) (t : Trace) (p : Position) (id new : ℕ) (c : TracedCall) (x : Placed) (rest : List Placed) (a : Action) (b : StepAnswer) (u : Tree) → next_from c.call (get_or p.stands.items id start) ≡ Some a → IsInPlace (tree_of p.tree) c.hart a
+    → IsApplied version (tree_of p.tree) (record { hart = c.hart; new = new; action = a }) b u → (new ≢ 0 → x.step.new ≡ new) → Coming version t p id c x rest → Applied version t p id c x rest a b u
+applied version t p id new c x rest a b u next place made same come =
+    let is = applied_is version (tree_of p.tree) c.hart new a b u x.step.new x.answer come.mid place same made (coming_step version t p id c x rest a next come) in record {
       action = one_some (next_from c.call (get_or p.stands.items id start)) x.step.action a come.next next;
       answer = is.0;
       tree = come.mid;
@@ -175,11 +175,11 @@ act_is : (s t : Action) (a b : StepAnswer) → s ≡ t → a ≡ b → let x : A
 act_is s t a b e f = cc
 
 -- a step whose answer doesn't fit
-pub no_fit : (base : TreeData) (t : Trace) (p : Position) (id new : ℕ) (c : TracedCall) (a : Action) (b : StepAnswer) (u : Tree) (later : Stand) → IsAt base t p → slice_get t.calls id ≡ Some c → next_from c.call (get_or p.stands.items id start) ≡ Some a → IsInPlace (tree_of p.tree) c.hart a
-    → IsApplied (tree_of p.tree) (record { hart = c.hart; new = new; action = a }) b u → later ≡ after (get_or p.stands.items id start) b → (Fits c.finished c.call (get_or p.stands.items id start) later b → ⊥) → IsDeadWith t p id new
-no_fit base t p id new c a b u later at is next place made then_is not lo x rest low own same can =
-    let come : Coming t p id c x rest = coming base t p id lo c x rest at is low own can in
-    let ap_is : Applied t p id c x rest a b u = applied t p id new c x rest a b u next place made same come in
+pub no_fit : (version : Version) (base : TreeData) (t : Trace) (p : Position) (id new : ℕ) (c : TracedCall) (a : Action) (b : StepAnswer) (u : Tree) (later : Stand) → IsAt version base t p → slice_get t.calls id ≡ Some c → next_from c.call (get_or p.stands.items id start) ≡ Some a → IsInPlace (tree_of p.tree) c.hart a
+    → IsApplied version (tree_of p.tree) (record { hart = c.hart; new = new; action = a }) b u → later ≡ after (get_or p.stands.items id start) b → (Fits c.finished c.call (get_or p.stands.items id start) later b → ⊥) → IsDeadWith version t p id new
+no_fit version base t p id new c a b u later at is next place made then_is not lo x rest low own same can =
+    let come : Coming version t p id c x rest = coming version base t p id lo c x rest at is low own can in
+    let ap_is : Applied version t p id c x rest a b u = applied version t p id new c x rest a b u next place made same come in
     let acts : act_of x ≡ record { step = a; answer = b } = act_is x.step.action a x.answer b ap_is.action ap_is.answer in
     let w : IsWritten c.call (acts_of id p.list.items ++ record { step = a; answer = b } ∷ acts_of id rest) c.finished = subst (λ (z : Act). IsWritten c.call (acts_of id p.list.items ++ z ∷ acts_of id rest) c.finished) acts come.written in
     not (written_fits c.finished c.call (acts_of id p.list.items) (record { step = a; answer = b }) (acts_of id rest) (get_or p.stands.items id start) later (at.calls id c is).stand then_is w)

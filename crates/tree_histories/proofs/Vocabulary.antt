@@ -1,11 +1,11 @@
 -- What this crate's proofs speak of: its own definitions, and what the crates below and the library call things.
-pub use Rattle.tree_histories.specs.Vocabulary.{Act, Action, Begin, BumpStep as Bump, Busy, Call, Cause, Chdir, ChdirStep, Close, CloseStep, Done, Dup, DupStep, EnterStep as Enter, Explains, Failed, FindStep as Find, Free, Fstat, FstatStep, Deed, HartStanding, Heard, History, Inherit, InheritStep, IsApplied, IsBadChoice, IsElement, IsInOne, IsInPlace, IsNewNode, IsNonDecreasingBy, IsSought, IsSoughtInOne, IsWritten, Leads, Link, Look, Makes, Mark, Mkdir, MkdirStep, Move, Name, Node, Op, Open, OpenStep, Opened, Own, Placed, Query, GiveUpWalk, Read, ReadStep, Reply, Sight as Seen, Stage, StepAnswer, Trace, TracedCall, Tree, TreeData, TreeStep, TruncateStep as Truncate, UnbumpStep as Unbump, Unlink, UnlinkStep, Whole, Write, WritePartStep as WritePart, action_in, call_in, cause_of, climbs, dotdot, elements, empty_it, entry_of, found_in, hart_count, has, is_full, is_nothing, linked, live_directory, lost_of, makes_node, mark_in, name_in, next_where, option_map, parent, path_of, piece, piece_count, query_in, refusal, resolve, seen_in, stage_by, start_of, text_in, told_by_move, tree_of, Chain}
-unfoldable pub use Rattle.tree_histories.specs.Vocabulary.{AllBelong, Follows, Rises, acts_of, all_fall, had_room, look, next_of, place_of, reply_of, same_name, settle}
+pub use Rattle.tree_histories.specs.Vocabulary.{Version, empty_in, face_of, face_seen, sight_of, Act, Action, Begin, BumpStep as Bump, Busy, Call, Cause, Chdir, ChdirStep, Close, CloseStep, Done, Dup, DupStep, EnterStep as Enter, Explains, Failed, FindStep as Find, Free, Fstat, FstatStep, Deed, HartStanding, Heard, History, Inherit, InheritStep, IsApplied, IsBadChoice, IsElement, IsInOne, IsInPlace, IsNewNode, IsNonDecreasingBy, IsSought, IsSoughtInOne, IsWritten, Leads, Link, Look, Makes, Mark, Mkdir, MkdirStep, Move, Name, Node, Op, Open, OpenStep, Opened, Own, Placed, Query, GiveUpWalk, Read, ReadStep, Reply, Sight as Seen, Stage, StepAnswer, Trace, TracedCall, Tree, TreeData, TreeStep, TruncateStep as Truncate, UnbumpStep as Unbump, Unlink, UnlinkStep, Whole, Write, WritePartStep as WritePart, action_in, call_in, cause_of, climbs, dotdot, elements, empty_it, entry_of, found_in, hart_count, has, is_full, is_nothing, linked, live_directory, lost_of, makes_node, mark_in, name_in, next_where, option_map, parent, path_of, piece, piece_count, query_in, refusal, resolve, seen_in, stage_by, start_of, text_in, told_by_move, tree_of}
+unfoldable pub use Rattle.tree_histories.specs.Vocabulary.{AllBelong, Chain, Follows, Rises, acts_of, all_fall, had_room, look, next_of, place_of, reply_of, same_name, settle}
 pub use Rattle.plain_tree.proofs.Vocabulary.{Belongs, Bool, Err, List, MayChoose, None, Ok, Option, Outcome, Result, Some, [], act_of, add-one, ap, append_assoc, arith, cases_Bool, cases_eq, creates, drop, false, get_or, get_or-eq_default, if_done, if_failed, if◌then◌else◌, inl, inr, is_absent, length, length-set, length_push, nat_lt, nat_tests, next_link, next_open, next_piece, not, once, opened_at, opened_in, opened_new, refl, refused, replicate, root, subst, suc, sym, take, take-append-drop, take_all, take_more, to_truncate, true, zero, ℕ, ◌&&◌, ◌++◌, ◌+◌, ◌-◌, ◌<◌, ◌==◌, ◌^◌, ◌||◌, ◌∙◌, ◌∷◌, ◌≡◌, ◌≢◌, ◌≤◌, ◌⊎◌}
-unfoldable pub use Rattle.plain_tree.proofs.Vocabulary.{answer_with as answer_by, effect_with as effect_by, first_cause, last_cause, put}
+unfoldable pub use Rattle.plain_tree.proofs.Vocabulary.{answer_with, effect_with, first_cause, last_cause, put, refusal_with}
 pub use Rattle.tree_histories.specs.declared.stand.Stand.{Stand}
 pub use Rattle.std.specs.List.{Contains, slice_get}
-pub use Rattle.tree_histories.specs.Keeping.{HasHeard, HasStarted, HeardBy, HearsSo, IsNewCall, KeptTree, Under, capped, counted, hart_in, is_lost, nothing_kept, passed, stage_of, walk_under, walking, with_hart, with_walk, written, written_by}
+pub use Rattle.tree_histories.specs.Keeping.{AllFit, StandsFit, HasHeard, HasStarted, HeardBy, HearsSo, IsNewCall, KeptTree, Under, capped, counted, hart_in, is_lost, nothing_kept, passed, stage_of, walk_under, walking, with_hart, with_walk, written, written_by}
 pub use Rattle.tree_histories.specs.Searching.{AgreesWith, AreOfCalls, CallIsExplored, CanEnd, Fits, HasFound, IsAt, IsDead, IsDeadWith, IsEarliest, IsExplored, IsHopeless, IsKept, IsLimit, IsMade, IsOfCall, IsPlaced, IsSteppedOn, IsTimely, IsTried, IsUndone, NeedsNumber, Precedes, end_at, end_of, knows, most, steps_left}
 unfoldable pub use Rattle.tree_histories.specs.Searching.{last_event, left}
 pub use Rattle.tree_histories.specs.Stands.{after, first_of, is_told, link_from, next_from, open_from, opened_file, reply_at, stand_of, start, truncate_from, was_done, was_failed, write_from}
@@ -17,8 +17,7 @@ pub use Rattle.tree_histories.specs.Moving.{ActedOn, HaveFallen, IsActed, IsActe
 pub use Rattle.tree_histories.specs.Ordered.{IsDue, IsOrdered, StandsFrom}
 pub use Rattle.tree_histories.specs.declared.ends.Due.{Due}
 pub use Rattle.tree_histories.specs.declared.position.Position.{Position}
-pub use Rattle.inode_machine.specs.Marks.{Made, act_entered, own_made}
-pub use Rattle.inode_machine.specs.VersionOne.{act_all, act_answer, acts, begun, look_made, looked, made_by}
+pub use Rattle.inode_machine.specs.Marks.{Made, act_all, act_answer, act_entered, acts, begun, look_made, looked, made_by, own_made}
 pub use Rattle.std.proofs.Math.ListN.{get_or-append}
 pub use Rattle.std.proofs.lemmas.Bool.{cases_lt}
 pub use Rattle.std.proofs.lemmas.Option.{get_or_from_slice_get, slice_get-get_or, slice_get_cases, slice_get_past, slice_get_read, slice_get_within}
@@ -30,7 +29,7 @@ pub use Rattle.tree_histories.specs.declared.standing.Walk.{Walk}
 pub use Rattle.tree_laws.specs.History.{replies, starts, tells, tells_any, writes, writes_any}
 pub use Rattle.tree_laws.specs.Moves.{fail}
 pub use Rattle.inode_machine.specs.Kept.{nothing_yet}
-pub use Rattle.inode_machine.specs.VersionOne.{ActsSo, MayBegin, MayLook, MayLookOn, MayMake, OpensLeast}
+pub use Rattle.inode_machine.specs.Making.{ActsSo, MayBegin, MayLook, MayLookOn, MayMake, OpensLeast}
 pub use Rattle.path_walk.specs.Asks.{op_in}
 pub use Rattle.path_walk.specs.declared.elements.Element.{Element}
 pub use Rattle.plain_tree.proofs.TreeLemmas.{put_back, set_put}
@@ -43,7 +42,7 @@ pub use Rattle.std.proofs.Math.Seq.{get_or-append_seam}
 pub use Rattle.std.proofs.lemmas.List.Elements.{Contains-push}
 pub use Rattle.std.proofs.lemmas.List.Sorted.{Contains-permutation}
 pub use Rattle.std.specs.List.Sorted.{IsPermutation}
-pub use Rattle.tree_histories.specs.Sights.{SeenFor, ShowsSo}
+pub use Rattle.tree_histories.specs.Sights.{FewSlotsIn, SeenFor, ShowsSo}
 pub use Rattle.tree_histories.specs.declared.explore.Hint.{Hint}
 pub use Rattle.tree_histories.specs.declared.explore.Tried.{Tried}
 pub use Rattle.tree_histories.specs.declared.position.Placing.{Placing}
@@ -55,6 +54,7 @@ pub use Rattle.whole_calls.specs.Wholes.{WholeAsks, first_in, second_in}
 pub use Rattle.plain_tree.specs.declared.step.StepAnswer.TheVariants.{Bytes, Fd as NewFd, Full as NoRoom, Stat as Status}
 pub use Rattle.plain_tree.specs.Code.{with_name}
 pub use Rattle.tree_histories.specs.declared.kept.Lead.{Lead}
-pub use Rattle.plain_tree.specs.VersionOne.{IsAppliedAt, Step, applied, in_place, answer_with, effect_with, IsAppliedAtWith, applied_with, in_place_with, IsAppliedWith, IsBadChoiceWith, IsRefusedWith, refusal_with}
-unfoldable pub use Rattle.plain_tree.specs.Explains.{Chain as ChainBy}
-pub use Rattle.plain_tree.proofs.VersionOne.{step_placed, applied_step, chain_one, step_one}
+pub use Rattle.plain_tree.specs.Applied.{IsAppliedAt, IsAppliedAtWith, IsAppliedWith, IsBadChoiceWith, IsRefusedWith, applied, applied_with, in_place, in_place_with}
+pub use Rattle.plain_tree.specs.Steps.{Step}
+pub use Rattle.plain_tree.proofs.LeadLemmas.{step_placed}
+pub use Rattle.plain_tree.proofs.StepLaws.{applied_step, chain_one, step_one}

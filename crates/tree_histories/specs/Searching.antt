@@ -1,6 +1,6 @@
 -- What the search keeps, and what it has ruled out.
 use Rattle.std.specs.Prelude.{◌≡◌, ◌≢◌, ℕ, ◌+◌, ◌-◌, ◌≤◌, ◌<◌, Bool, true, false, List, [], ◌∷◌, ◌++◌, length, if◌then◌else◌, Option, Some, None, slice_get, slice_index_or}
-use Rattle.tree_histories.specs.Vocabulary.{Reply, Call, Open, Write, Link, StepAnswer, Placed, Trace, TracedCall, TreeData, Tree, tree_of, is_nothing, Act, Follows, had_room, next_of, piece_count, reply_of, Leads, is_full, AllBelong, Chain, IsWritten, Rises, acts_of}
+use Rattle.tree_histories.specs.Vocabulary.{Version, Reply, Call, Open, Write, Link, StepAnswer, Placed, Trace, TracedCall, TreeData, Tree, tree_of, is_nothing, Act, Follows, had_room, next_of, piece_count, reply_of, Leads, is_full, AllBelong, Chain, IsWritten, Rises, acts_of}
 use Rattle.tree_histories.specs.declared.ends.Due.{Due}
 use Rattle.tree_histories.specs.declared.explore.Tried.{Tried}
 use Rattle.tree_histories.specs.declared.explore.Tried.TheVariants as tried
@@ -56,8 +56,8 @@ abbrev pub Precedes : List Placed → List (Option ℕ) → Type 0
 Precedes list ends = (id e : ℕ) → slice_index_or ends id None ≡ Some e → last_event list ≤ e
 
 -- The list so far leads from the base to the tree, and agrees with the trace.
-pub record IsAt (base : TreeData) (t : Trace) (p : Position) : Type 0 where
-  pub chain : Chain (tree_of base) p.list.items (tree_of p.tree)
+pub record IsAt (version : Version) (base : TreeData) (t : Trace) (p : Position) : Type 0 where
+  pub chain : Chain version (tree_of base) p.list.items (tree_of p.tree)
   pub rises : Rises 0 p.list.items
   pub belongs : AllBelong t p.list.items
   pub calls : AreOfCalls t.calls p.list.items p.stands.items p.ends
@@ -70,31 +70,32 @@ abbrev pub IsThrough : Position → Type 0
 IsThrough p = (id : ℕ) → slice_index_or p.ends id None ≡ None
 
 -- A rest that makes the list explain the trace, if the tree is t after the list; its numbers may begin at lo.
-pub record CanEnd (trace : Trace) (t : Tree) (list : List Placed) (lo : ℕ) (rest : List Placed) : Type 0 where
+pub record CanEnd (version : Version) (trace : Trace) (t : Tree) (list : List Placed) (lo : ℕ) (rest : List Placed) : Type 0 where
   pub rises : Rises lo rest
-  pub leads : Leads t rest
+  pub leads : Leads version t rest
   pub written : (id : ℕ) (c : TracedCall) → slice_get trace.calls id ≡ Some c
       → IsWritten c.call (acts_of id list ++ acts_of id rest) c.finished
   pub belongs : AllBelong trace rest
 
 -- there is none
-abbrev pub IsHopeless : Trace → Position → Type 0
-IsHopeless t p = (lo : ℕ) (rest : List Placed) → last_event p.list.items ≤ lo → CanEnd t (tree_of p.tree) p.list.items lo rest → ⊥
+abbrev pub IsHopeless : Version → Trace → Position → Type 0
+IsHopeless version t p = (lo : ℕ) (rest : List Placed) → last_event p.list.items ≤ lo
+    → CanEnd version t (tree_of p.tree) p.list.items lo rest → ⊥
 
 -- None begins with a step of this call.
-abbrev pub IsDead : Trace → Position → ℕ → Type 0
-IsDead t p id = (lo : ℕ) (x : Placed) (rest : List Placed) → last_event p.list.items ≤ lo → x.call ≡ id
-    → CanEnd t (tree_of p.tree) p.list.items lo (x ∷ rest) → ⊥
+abbrev pub IsDead : Version → Trace → Position → ℕ → Type 0
+IsDead version t p id = (lo : ℕ) (x : Placed) (rest : List Placed) → last_event p.list.items ≤ lo → x.call ≡ id
+    → CanEnd version t (tree_of p.tree) p.list.items lo (x ∷ rest) → ⊥
 
 -- None begins with a step of this call that takes this number for the node it makes; for 0: none with any step of it.
-abbrev pub IsDeadWith : Trace → Position → ℕ → ℕ → Type 0
-IsDeadWith t p id new = (lo : ℕ) (x : Placed) (rest : List Placed) → last_event p.list.items ≤ lo → x.call ≡ id
-    → (new ≢ 0 → x.step.new ≡ new) → CanEnd t (tree_of p.tree) p.list.items lo (x ∷ rest) → ⊥
+abbrev pub IsDeadWith : Version → Trace → Position → ℕ → ℕ → Type 0
+IsDeadWith version t p id new = (lo : ℕ) (x : Placed) (rest : List Placed) → last_event p.list.items ≤ lo → x.call ≡ id
+    → (new ≢ 0 → x.step.new ≡ new) → CanEnd version t (tree_of p.tree) p.list.items lo (x ∷ rest) → ⊥
 
 -- Each that begins with a step of this call takes a number for a node that it makes.
-abbrev pub NeedsNumber : Trace → Position → ℕ → Type 0
-NeedsNumber t p id = (lo : ℕ) (x : Placed) (rest : List Placed) → last_event p.list.items ≤ lo → x.call ≡ id
-    → CanEnd t (tree_of p.tree) p.list.items lo (x ∷ rest) → (1 ≤ x.step.new) × (x.step.new < (tree_of p.tree).ninodes)
+abbrev pub NeedsNumber : Version → Trace → Position → ℕ → Type 0
+NeedsNumber version t p id = (lo : ℕ) (x : Placed) (rest : List Placed) → last_event p.list.items ≤ lo → x.call ≡ id
+    → CanEnd version t (tree_of p.tree) p.list.items lo (x ∷ rest) → (1 ≤ x.step.new) × (x.step.new < (tree_of p.tree).ninodes)
 
 -- the same list and the same tree
 pub record IsSame (p q : Position) : Type 0 where
@@ -135,46 +136,49 @@ pub record IsEarliest (p : Position) (wish limit : ℕ) : Type 0 where
   pub is : IsDue p.ends due
   pub at : due.limit ≡ limit
 
-pub record IsMade (base : TreeData) (t : Trace) (p : Position) (id new wish limit : ℕ) (q : Position) : Type 0 where
-  pub at : IsAt base t q
+pub record IsMade (version : Version) (base : TreeData) (t : Trace) (p : Position) (id new wish limit : ℕ) (q : Position) : Type 0 where
+  pub at : IsAt version base t q
   pub more : IsMore p id q
   pub fewer : steps_left t q < steps_left t p
-  pub ruled_out : IsEarliest p wish limit → IsHopeless t q → IsDeadWith t p id new
+  pub ruled_out : IsEarliest p wish limit → IsHopeless version t q → IsDeadWith version t p id new
 
-pub record IsKept (base : TreeData) (t : Trace) (p q : Position) : Type 0 where
-  pub at : IsAt base t q
+pub record IsKept (version : Version) (base : TreeData) (t : Trace) (p q : Position) : Type 0 where
+  pub at : IsAt version base t q
   pub same : IsSame p q
 
-abbrev pub IsPlaced : TreeData → Trace → Position → ℕ → ℕ → ℕ → ℕ → Placing → Position → Type 0
-IsPlaced base t p id new wish limit placing.Made q = IsMade base t p id new wish limit q
-IsPlaced base t p id new wish limit placing.Refused q = IsKept base t p q × (IsEarliest p wish limit → IsDeadWith t p id new)
-IsPlaced base t p id new wish limit placing.BadChoice q = IsKept base t p q × NeedsNumber t p id × (new ≢ 0 → IsDeadWith t p id new)
+abbrev pub IsPlaced : Version → TreeData → Trace → Position → ℕ → ℕ → ℕ → ℕ → Placing → Position → Type 0
+IsPlaced version base t p id new wish limit placing.Made q = IsMade version base t p id new wish limit q
+IsPlaced version base t p id new wish limit placing.Refused q =
+    IsKept version base t p q × (IsEarliest p wish limit → IsDeadWith version t p id new)
+IsPlaced version base t p id new wish limit placing.BadChoice q =
+    IsKept version base t p q × NeedsNumber version t p id × (new ≢ 0 → IsDeadWith version t p id new)
 
 -- the last entry is taken back
-pub record IsUndone (base : TreeData) (t : Trace) (p q : Position) : Type 0 where
-  pub at : IsAt base t q
+pub record IsUndone (version : Version) (base : TreeData) (t : Trace) (p q : Position) : Type 0 where
+  pub at : IsAt version base t q
   pub list : (front : List Placed) (e : Placed) → p.list.items ≡ front ++ e ∷ [] → q.list.items ≡ front
 
 -- What came of a search from there on.
 
-pub record HasFound (base : TreeData) (t : Trace) (q : Position) : Type 0 where
-  pub at : IsAt base t q
+pub record HasFound (version : Version) (base : TreeData) (t : Trace) (q : Position) : Type 0 where
+  pub at : IsAt version base t q
   pub through : IsThrough q
 
-abbrev pub IsTried : TreeData → Trace → Position → ℕ → ℕ → Tried → Position → Type 0
-IsTried base t p id new tried.Found q = HasFound base t q
-IsTried base t p id new tried.Dead q = IsKept base t p q × IsDeadWith t p id new
-IsTried base t p id new tried.BadChoice q = IsKept base t p q × NeedsNumber t p id × (new ≢ 0 → IsDeadWith t p id new)
+abbrev pub IsTried : Version → TreeData → Trace → Position → ℕ → ℕ → Tried → Position → Type 0
+IsTried version base t p id new tried.Found q = HasFound version base t q
+IsTried version base t p id new tried.Dead q = IsKept version base t p q × IsDeadWith version t p id new
+IsTried version base t p id new tried.BadChoice q =
+    IsKept version base t p q × NeedsNumber version t p id × (new ≢ 0 → IsDeadWith version t p id new)
 
 -- found, or nothing begins with a step of this call
-abbrev pub CallIsExplored : TreeData → Trace → Position → ℕ → Bool → Position → Type 0
-CallIsExplored base t p id true q = HasFound base t q
-CallIsExplored base t p id false q = IsKept base t p q × IsDead t p id
+abbrev pub CallIsExplored : Version → TreeData → Trace → Position → ℕ → Bool → Position → Type 0
+CallIsExplored version base t p id true q = HasFound version base t q
+CallIsExplored version base t p id false q = IsKept version base t p q × IsDead version t p id
 
 -- found, or there is nothing
-abbrev pub IsExplored : TreeData → Trace → Position → Bool → Position → Type 0
-IsExplored base t p true q = HasFound base t q
-IsExplored base t p false q = IsKept base t p q × IsHopeless t p
+abbrev pub IsExplored : Version → TreeData → Trace → Position → Bool → Position → Type 0
+IsExplored version base t p true q = HasFound version base t q
+IsExplored version base t p false q = IsKept version base t p q × IsHopeless version t p
 
 -- the step's answer is one that the finished call may have
 abbrev pub Fits : Option (ℕ × Reply) → Call → Stand → Stand → StepAnswer → Type 0
@@ -187,6 +191,6 @@ IsTimely None event limit events = (event ≤ limit) × (event < events)
 IsTimely (Some r) event limit events = event ≤ limit
 
 -- a step was placed, or none
-abbrev pub IsSteppedOn : TreeData → Trace → Position → Bool → Position → Type 0
-IsSteppedOn base t p true q = IsAt base t q × (steps_left t q < steps_left t p)
-IsSteppedOn base t p false q = IsKept base t p q
+abbrev pub IsSteppedOn : Version → TreeData → Trace → Position → Bool → Position → Type 0
+IsSteppedOn version base t p true q = IsAt version base t q × (steps_left t q < steps_left t p)
+IsSteppedOn version base t p false q = IsKept version base t p q

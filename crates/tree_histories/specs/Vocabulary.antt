@@ -27,15 +27,14 @@ pub use Rattle.whole_calls.specs.Wholes.{WholeFits, action_in, call_in, text_in,
 pub use Rattle.whole_calls.specs.declared.whole.Whole.{Whole}
 pub use Rattle.atomic_programs.specs.Prog.{Ret}
 pub use Rattle.inode_machine.specs.Inodes.{empty_in, found_in, is_empty_kind, type_of_kind}
-pub use Rattle.inode_machine.specs.VersionOne.{face_of as face_seen, seen_in}
-pub use Rattle.inode_machine.specs.VersionOne.{stage_by, told_by_move}
-pub use Rattle.inode_machine.specs.VersionOne.{MayMake, OpensLeast}
-pub use Rattle.inode_machine.specs.VersionOne.{program}
+pub use Rattle.inode_machine.specs.Inodes.{face_of as face_seen, seen_in}
+pub use Rattle.inode_machine.specs.Kept.{stage_by, told_by_move}
+pub use Rattle.inode_machine.specs.Making.{MayMake, OpensLeast}
+pub use Rattle.inode_machine.specs.Programs.{program}
 pub use Rattle.inode_machine.specs.World.{Op}
 pub use Rattle.inode_machine.specs.World.Mark.{Makes}
 pub use Rattle.inode_machine.specs.World.Op.{LockFile, LockOpen, StatFile, Take}
-pub use Rattle.path_walk.specs.Elements.{IsInOne, name_in}
-pub use Rattle.path_walk.specs.VersionOne.{IsElement}
+pub use Rattle.path_walk.specs.Elements.{IsElement, IsInOne, name_in}
 pub use Rattle.path_walk.specs.declared.asks.Query.{Query}
 pub use Rattle.path_walk.specs.declared.asks.Sight.{Sight}
 pub use Rattle.plain_tree.specs.Progress.{next_where}
@@ -55,4 +54,12 @@ pub use Rattle.tree_laws.specs.Moves.{Deed, Move, Stage}
 pub use Rattle.tree_laws.specs.Moves.Move.{Begin, Look, Own, GiveUpWalk}
 pub use Rattle.tree_laws.specs.Runs.{lost_of, moves_on}
 unfoldable pub use Rattle.tree_laws.specs.Runs.{all_fall}
-pub use Rattle.plain_tree.specs.VersionOne.{elements, parent, resolve, refusal, size_of, Explains, Chain, Leads, IsApplied, IsAppliedWith, IsBadChoice, IsBadChoiceWith, with_element}
+pub use Rattle.image_versions.specs.declared.version.Version.{Version}
+pub use Rattle.image_versions.specs.Versions.{dirent_len_of}
+pub use Rattle.plain_tree.specs.Tree.{elements, parent, resolve}
+pub use Rattle.plain_tree.specs.Steps.{refusal, size_of}
+pub use Rattle.plain_tree.specs.Explains.{Explains}
+unfoldable pub use Rattle.plain_tree.specs.Explains.{Chain}
+pub use Rattle.plain_tree.specs.Checked.{Leads}
+pub use Rattle.plain_tree.specs.Applied.{IsApplied, IsAppliedWith, IsBadChoice, IsBadChoiceWith}
+pub use Rattle.plain_tree.specs.Code.{with_element}

@@ -1,6 +1,6 @@
 -- The walk of a call under way in the kept tree, and the tree steps that its marks are for.
 use Rattle.std.specs.Prelude.{◌≡◌, ℕ, Bool, true, false, List, [], ◌∷◌, drop, length, Option, Some, None}
-use Rattle.tree_histories.specs.Vocabulary.{option_map, Call, Action, Name, elements, path_of, piece_of, Mark, Whole}
+use Rattle.tree_histories.specs.Vocabulary.{Version, option_map, Call, Action, Name, elements, path_of, piece_of, Mark, Whole}
 use Rattle.plain_tree.specs.declared.call.Call.TheVariants as calls
 use Rattle.plain_tree.specs.declared.step.Action.TheVariants as steps
 use Rattle.tree_laws.specs.Moves as moves
@@ -59,16 +59,16 @@ abbrev pub walk_on : Action → ℕ → List Name → moves.Walk
 walk_on s d es = record { step = s; at = d; next = first_of_them es; rest = others es }
 
 -- the elements that are left to a walk of the call
-abbrev pub left_to : Call → Walk → List Name
-left_to call w = elements (drop w.from (path_of (step_for call w.is_new)))
+abbrev pub left_to : Version → Call → Walk → List Name
+left_to version call w = elements version (drop w.from (path_of (step_for call w.is_new)))
 
 -- what a walk in code represents
-abbrev pub walk_of : Call → Walk → moves.Walk
-walk_of call w = walk_on (step_for call w.is_new) w.directory (left_to call w)
+abbrev pub walk_of : Version → Call → Walk → moves.Walk
+walk_of version call w = walk_on (step_for call w.is_new) w.directory (left_to version call w)
 
 -- the next element of a path from this place on
-abbrev pub name_from : ℕ → List ℕ → Name
-name_from from path = first_of_them (elements (drop from path))
+abbrev pub name_from : Version → ℕ → List ℕ → Name
+name_from version from path = first_of_them (elements version (drop from path))
 
 -- no elements are left
 abbrev pub are_none : List Name → Bool
@@ -81,11 +81,11 @@ LeadsBy lead w [] found = (lead.node ≡ found) × (lead.parent ≡ Some w.direc
 LeadsBy lead w (e ∷ es) found = (lead.node ≡ None) × (lead.parent ≡ None)
 
 -- a walk of the call, for this step, in this directory, with these elements left; without elements there is none
-abbrev pub IsWalk : Call → Option Walk → Action → ℕ → List Name → Type 0
-IsWalk call o s d [] = o ≡ None
-IsWalk call o s d (e ∷ es) = option_map (walk_of call) o ≡ Some (walk_on s d (e ∷ es))
+abbrev pub IsWalk : Version → Call → Option Walk → Action → ℕ → List Name → Type 0
+IsWalk version call o s d [] = o ≡ None
+IsWalk version call o s d (e ∷ es) = option_map (walk_of version call) o ≡ Some (walk_on s d (e ∷ es))
 
 -- the walk goes on in what was found, if that is there and elements are left
-abbrev pub IsNextWalk : Call → Option Walk → moves.Walk → Option ℕ → Type 0
-IsNextWalk call o w None = o ≡ None
-IsNextWalk call o w (Some n) = IsWalk call o w.step n w.rest
+abbrev pub IsNextWalk : Version → Call → Option Walk → moves.Walk → Option ℕ → Type 0
+IsNextWalk version call o w None = o ≡ None
+IsNextWalk version call o w (Some n) = IsWalk version call o w.step n w.rest

@@ -8,6 +8,7 @@ ghost use Rattle.tree_histories.specs.Searching.{CallIsExplored, IsAt, IsExplore
 use crate::ends::Due;
 use crate::next::Attempt;
 use crate::position::{Placing, Position, stand_in};
+use image_versions::Version;
 use plain_tree::{NoMemory, Placed, Trace, Tree};
 use std::alloc::Global;
 
@@ -68,6 +69,7 @@ impl Position {
     fn explore_step(
         &mut self,
         alloc: Global,
+        version: Version,
         base: &Tree,
         trace: &Trace,
         hints: &[Hint],
@@ -76,16 +78,16 @@ impl Position {
         new: u16,
         due: Due,
     ) -> Attempt<Tried>
-        requires at { IsAt base.now trace.now self.old }
+        requires at { IsAt version base.now trace.now self.old }
         requires due { IsDue self.old.ends due }
-        ensures { IfOk result (λ r. IsTried base.now trace.now self.old id new r self.new) }
+        ensures { IfOk result (λ r. IsTried version base.now trace.now self.old id new r self.new) }
     {
-        match self.place(alloc, base, trace, id, new, 0, due.limit)? {
+        match self.place(alloc, version, base, trace, id, new, 0, due.limit)? {
             Placing::Made => {
-                if self.explore(alloc, base, trace, hints, from)? {
+                if self.explore(alloc, version, base, trace, hints, from)? {
                     return Ok(Tried::Found);
                 }
-                self.undo(alloc, base, trace)?;
+                self.undo(alloc, version, base, trace)?;
                 Ok(Tried::Dead)
             }
             Placing::Refused => Ok(Tried::Dead),
@@ -98,6 +100,7 @@ impl Position {
     fn explore_numbers(
         &mut self,
         alloc: Global,
+        version: Version,
         base: &Tree,
         trace: &Trace,
         hints: &[Hint],
@@ -106,23 +109,23 @@ impl Position {
         preferred: u16,
         due: Due,
     ) -> Attempt<bool>
-        requires at { IsAt base.now trace.now self.old }
+        requires at { IsAt version base.now trace.now self.old }
         requires due { IsDue self.old.ends due }
-        requires numbered { NeedsNumber trace.now self.old id }
-        ensures { IfOk result (λ b. CallIsExplored base.now trace.now self.old id b self.new) }
+        requires numbered { NeedsNumber version trace.now self.old id }
+        ensures { IfOk result (λ b. CallIsExplored version base.now trace.now self.old id b self.new) }
     {
         let ninodes = self.tree.ninodes();
         if ninodes > 65536 {
             return Err(NoMemory);
         }
-        match self.explore_step(alloc, base, trace, hints, from, id, preferred, due)? {
+        match self.explore_step(alloc, version, base, trace, hints, from, id, preferred, due)? {
             Tried::Found => return Ok(true),
             _ => {}
         }
         for number in 1..ninodes {
             let new = number as u16;
             if new != preferred {
-                match self.explore_step(alloc, base, trace, hints, from, id, new, due)? {
+                match self.explore_step(alloc, version, base, trace, hints, from, id, new, due)? {
                     Tried::Found => return Ok(true),
                     _ => {}
                 }
@@ -136,6 +139,7 @@ impl Position {
     fn explore_call(
         &mut self,
         alloc: Global,
+        version: Version,
         base: &Tree,
         trace: &Trace,
         hints: &[Hint],
@@ -144,15 +148,15 @@ impl Position {
         preferred: u16,
         due: Due,
     ) -> Attempt<bool>
-        requires at { IsAt base.now trace.now self.old }
+        requires at { IsAt version base.now trace.now self.old }
         requires due { IsDue self.old.ends due }
-        ensures { IfOk result (λ b. CallIsExplored base.now trace.now self.old id b self.new) }
+        ensures { IfOk result (λ b. CallIsExplored version base.now trace.now self.old id b self.new) }
     {
-        match self.explore_step(alloc, base, trace, hints, from, id, 0, due)? {
+        match self.explore_step(alloc, version, base, trace, hints, from, id, 0, due)? {
             Tried::Found => Ok(true),
             Tried::Dead => Ok(false),
             Tried::BadChoice => {
-                self.explore_numbers(alloc, base, trace, hints, from, id, preferred, due)
+                self.explore_numbers(alloc, version, base, trace, hints, from, id, preferred, due)
             }
         }
     }
@@ -162,13 +166,14 @@ impl Position {
     fn explore(
         &mut self,
         alloc: Global,
+        version: Version,
         base: &Tree,
         trace: &Trace,
         hints: &[Hint],
         from: usize,
     ) -> Attempt<bool>
-        requires { IsAt base.now trace.now self.old }
-        ensures { IfOk result (λ b. IsExplored base.now trace.now self.old b self.new) }
+        requires { IsAt version base.now trace.now self.old }
+        ensures { IfOk result (λ b. IsExplored version base.now trace.now self.old b self.new) }
     {
         let Some(due) = self.due() else {
             return Ok(true);
@@ -178,15 +183,19 @@ impl Position {
             Some(hint) => (hint.call, hint.new),
             None => (due.id, 0),
         };
-        if self.explore_call(alloc, base, trace, hints, from, first, preferred, due)? {
+        if self.explore_call(
+            alloc, version, base, trace, hints, from, first, preferred, due,
+        )? {
             return Ok(true);
         }
-        if due.id != first && self.explore_call(alloc, base, trace, hints, from, due.id, 0, due)? {
+        if due.id != first
+            && self.explore_call(alloc, version, base, trace, hints, from, due.id, 0, due)?
+        {
             return Ok(true);
         }
         for id in 0..trace.calls.as_slice().len() {
             if id != first && id != due.id {
-                if self.explore_call(alloc, base, trace, hints, from, id, 0, due)? {
+                if self.explore_call(alloc, version, base, trace, hints, from, id, 0, due)? {
                     return Ok(true);
                 }
             }
@@ -196,12 +205,18 @@ impl Position {
 }
 
 // From nothing on, every step is tried in turn.
-fn search(alloc: Global, base: &Tree, trace: &Trace, hints: &[Hint]) -> Attempt<Option<Vec<Placed>>>
-    ensures { IfOk result (λ o. MatchOption o ((list : List Placed) → Explains base.now trace.now list → ⊥)
-        (λ v. Explains base.now trace.now v.items)) }
+fn search(
+    alloc: Global,
+    version: Version,
+    base: &Tree,
+    trace: &Trace,
+    hints: &[Hint],
+) -> Attempt<Option<Vec<Placed>>>
+    ensures { IfOk result (λ o. MatchOption o ((list : List Placed) → Explains version base.now trace.now list → ⊥)
+        (λ v. Explains version base.now trace.now v.items)) }
 {
     let mut position = Position::begin(alloc, base, trace)?;
-    if position.explore(alloc, base, trace, hints, 0)? {
+    if position.explore(alloc, version, base, trace, hints, 0)? {
         Ok(Some(position.list))
     } else {
         Ok(None)
@@ -212,22 +227,22 @@ fn search(alloc: Global, base: &Tree, trace: &Trace, hints: &[Hint]) -> Attempt<
 /// on from step to step: the one that is hinted at, one of the call that has to return first, or another that fits.
 /// Where that leads nowhere, the steps of calls are tried from there, and then from the beginning, in every order that the
 /// trace allows, and for a new node every number. With the right hints, and mostly without any, a list is found at once;
-/// where no list explains, the time may grow with the power of the number of calls.
-/// of the number of calls. The error is that memory is short, or that a step which is tried must make a node while the
-/// 65,536 numbers.
+/// where no list explains, the time may grow with the power of the number of calls. The error is that memory is short,
+/// or that a step which is tried must make a node in a table of more than 65,536 numbers.
 pub fn find_history(
     alloc: Global,
+    version: Version,
     base: &Tree,
     trace: &Trace,
     hints: &[Hint],
 ) -> Result<Option<Vec<Placed>>, NoMemory>
-    ensures { IfOk result (λ o. MatchOption o ((list : List Placed) → Explains base.now trace.now list → ⊥)
-        (λ v. Explains base.now trace.now v.items)) }
+    ensures { IfOk result (λ o. MatchOption o ((list : List Placed) → Explains version base.now trace.now list → ⊥)
+        (λ v. Explains version base.now trace.now v.items)) }
 {
     let mut position = Position::begin(alloc, base, trace)?;
-    position.follow(alloc, base, trace, hints)?;
-    if position.explore(alloc, base, trace, hints, 0)? {
+    position.follow(alloc, version, base, trace, hints)?;
+    if position.explore(alloc, version, base, trace, hints, 0)? {
         return Ok(Some(position.list));
     }
-    search(alloc, base, trace, hints)
+    search(alloc, version, base, trace, hints)
 }

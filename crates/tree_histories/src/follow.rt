@@ -7,6 +7,7 @@ use crate::ends::Due;
 use crate::explore::{Hint, next_hint};
 use crate::next::Attempt;
 use crate::position::{Placing, Position};
+use image_versions::Version;
 use plain_tree::{Trace, Tree};
 use std::alloc::Global;
 
@@ -15,19 +16,29 @@ impl Position {
     fn step_on_numbers(
         &mut self,
         alloc: Global,
+        version: Version,
         base: &Tree,
         trace: &Trace,
         id: usize,
         wish: u64,
         due: Due,
     ) -> Attempt<bool>
-        requires at { IsAt base.now trace.now self.old }
+        requires at { IsAt version base.now trace.now self.old }
         requires due { IsDue self.old.ends due }
-        ensures { IfOk result (λ b. IsSteppedOn base.now trace.now self.old b self.new) }
+        ensures { IfOk result (λ b. IsSteppedOn version base.now trace.now self.old b self.new) }
     {
         let ninodes = self.tree.ninodes().min(65536);
         for number in 1..ninodes {
-            match self.place(alloc, base, trace, id, number as u16, wish, due.limit)? {
+            match self.place(
+                alloc,
+                version,
+                base,
+                trace,
+                id,
+                number as u16,
+                wish,
+                due.limit,
+            )? {
                 Placing::Made => return Ok(true),
                 Placing::Refused => return Ok(false),
                 Placing::BadChoice => {}
@@ -40,6 +51,7 @@ impl Position {
     fn step_on_call(
         &mut self,
         alloc: Global,
+        version: Version,
         base: &Tree,
         trace: &Trace,
         id: usize,
@@ -47,14 +59,14 @@ impl Position {
         wish: u64,
         due: Due,
     ) -> Attempt<bool>
-        requires at { IsAt base.now trace.now self.old }
+        requires at { IsAt version base.now trace.now self.old }
         requires due { IsDue self.old.ends due }
-        ensures { IfOk result (λ b. IsSteppedOn base.now trace.now self.old b self.new) }
+        ensures { IfOk result (λ b. IsSteppedOn version base.now trace.now self.old b self.new) }
     {
-        match self.place(alloc, base, trace, id, preferred, wish, due.limit)? {
+        match self.place(alloc, version, base, trace, id, preferred, wish, due.limit)? {
             Placing::Made => Ok(true),
             Placing::Refused => Ok(false),
-            Placing::BadChoice => self.step_on_numbers(alloc, base, trace, id, wish, due),
+            Placing::BadChoice => self.step_on_numbers(alloc, version, base, trace, id, wish, due),
         }
     }
 
@@ -62,27 +74,28 @@ impl Position {
     fn step_on(
         &mut self,
         alloc: Global,
+        version: Version,
         base: &Tree,
         trace: &Trace,
         hint: Option<Hint>,
         due: Due,
     ) -> Attempt<bool>
-        requires at { IsAt base.now trace.now self.old }
+        requires at { IsAt version base.now trace.now self.old }
         requires due { IsDue self.old.ends due }
-        ensures { IfOk result (λ b. IsSteppedOn base.now trace.now self.old b self.new) }
+        ensures { IfOk result (λ b. IsSteppedOn version base.now trace.now self.old b self.new) }
     {
         let (first, preferred, wish) = match hint {
             Some(hint) => (hint.call, hint.new, hint.event),
             None => (due.id, 0, 0),
         };
-        if self.step_on_call(alloc, base, trace, first, preferred, wish, due)? {
+        if self.step_on_call(alloc, version, base, trace, first, preferred, wish, due)? {
             return Ok(true);
         }
-        if self.step_on_call(alloc, base, trace, due.id, 0, 0, due)? {
+        if self.step_on_call(alloc, version, base, trace, due.id, 0, 0, due)? {
             return Ok(true);
         }
         for id in 0..trace.calls.as_slice().len() {
-            if self.step_on_call(alloc, base, trace, id, 0, 0, due)? {
+            if self.step_on_call(alloc, version, base, trace, id, 0, 0, due)? {
                 return Ok(true);
             }
         }
@@ -90,9 +103,16 @@ impl Position {
     }
 
     /// Places the steps of calls that haven't replied, to which hints lead, if no call has to go on.
-    fn append(&mut self, alloc: Global, base: &Tree, trace: &Trace, hints: &[Hint]) -> Attempt<()>
-        requires { IsAt base.now trace.now self.old }
-        ensures { IfOk result (λ _. IsAt base.now trace.now self.new) }
+    fn append(
+        &mut self,
+        alloc: Global,
+        version: Version,
+        base: &Tree,
+        trace: &Trace,
+        hints: &[Hint],
+    ) -> Attempt<()>
+        requires { IsAt version base.now trace.now self.old }
+        ensures { IfOk result (λ _. IsAt version base.now trace.now self.new) }
     {
         for hint in hints {
             if let Some(_) = self.due() {
@@ -101,6 +121,7 @@ impl Position {
             if self.awaits(trace, hint.call, hint.step) {
                 self.place(
                     alloc,
+                    version,
                     base,
                     trace,
                     hint.call,
@@ -117,21 +138,28 @@ impl Position {
     pub(crate) fn follow(
         &mut self,
         alloc: Global,
+        version: Version,
         base: &Tree,
         trace: &Trace,
         hints: &[Hint],
     ) -> Attempt<()>
-        requires { IsAt base.now trace.now self.old }
-        ensures { IfOk result (λ _. IsAt base.now trace.now self.new) }
+        requires { IsAt version base.now trace.now self.old }
+        ensures { IfOk result (λ _. IsAt version base.now trace.now self.new) }
     {
         let mut from = 0;
         while let Some(due) = self.due() {
             let (place, hint) = next_hint(self, trace, hints, from);
             from = place;
-            if !self.step_on(alloc, base, trace, hint, due)? {
+            if !self.step_on(alloc, version, base, trace, hint, due)? {
                 return Ok(());
             }
         }
-        self.append(alloc, base, trace, hints.get(from..).unwrap_or(&[]))
+        self.append(
+            alloc,
+            version,
+            base,
+            trace,
+            hints.get(from..).unwrap_or(&[]),
+        )
     }
 }

@@ -12,8 +12,9 @@ ghost use Rattle.tree_laws.specs.Runs.{lost_of};
 ghost use Rattle.inode_machine.specs.Kept.{nothing_yet};
 ghost use Rattle.path_walk.specs.Asks.{asks, op_in};
 ghost use Rattle.whole_calls.specs.Wholes.{IsCall, WholeFits, action_in, call_in, whole_of};
+ghost use Rattle.image_versions.specs.declared.version.Version.{Version};
 ghost use Rattle.tree_histories.specs.Books.{IsBook};
-ghost use Rattle.tree_histories.specs.Keeping.{HasHeard, HasStarted, Under, counted, ended, hart_in, is_lost, nothing_kept, passed, stage_of, with_hart, with_walk, written};
+ghost use Rattle.tree_histories.specs.Keeping.{HasHeard, HasStarted, Under, StandsFit, counted, ended, hart_in, is_lost, nothing_kept, passed, stage_of, with_hart, with_walk, written};
 ghost use Rattle.tree_histories.specs.Moving.{HasRun, HaveFallen, IsActed, IsActedAlone, IsDeedOf, KeepsRest, MovesBy, NoneFalls, OnlyMoves, StaysFor, TellsOf, WereLost, spoils, told_in, tree_step};
 ghost use Rattle.tree_histories.specs.Sights.{MarksBy, SeenFor, acts_first};
 ghost use Rattle.tree_histories.specs.Walks.{IsNextWalk, LeadsBy, name_from, step_in, walk_of};
@@ -58,6 +59,7 @@ impl Model for Deed {
 /// move, a reply and an event that shows nothing take both on as they take the theory's, where the hart may make the move (`MayMake`).
 #[derive(Drop)]
 pub struct Kept {
+    version: Version,
     tree: Tree,
     list: Vec<Placed>,
     events: u64,
@@ -69,25 +71,33 @@ pub struct Kept {
 
 impl Model for Kept {
     ghost use Rattle.std.specs.Prelude.{◌≡◌, length};
-    ghost use Rattle.tree_histories.specs.Keeping.{KeptTree};
+    ghost use Rattle.tree_histories.specs.Keeping.{AllFit, KeptTree};
 
     ghost Value = { KeptTree };
 
-    ghost view = { λ k. record { tree = k.tree; list = k.list.items; events = k.events; calls = k.calls; harts = k.harts; full = k.full } };
+    ghost view = { λ k. record {
+      version = k.version;
+      tree = k.tree;
+      list = k.list.items;
+      events = k.events;
+      calls = k.calls;
+      harts = k.harts;
+      full = k.full;
+    } };
 
-    ghost invariant = { λ k. length k.harts ≡ 8 };
+    ghost invariant = { λ k. (length k.harts ≡ 8) × AllFit k.version k.harts };
 }
 
 // What the operation that was asked for answers when its lock is taken, as far as the tree shows it. What it finds
 // there is read from the device later, and nobody changes it in between.
-fn seen(tree: &Tree, standing: &Standing) -> Heard
-    ensures { (listed : List ℕ) → WholeFits listed standing.now.whole
-        → SeenFor (tree_of tree.now) (asks (whole_of listed standing.now.whole)) result }
+fn seen(version: Version, tree: &Tree, standing: &Standing) -> Heard
+    ensures { (listed : List ℕ) → WholeFits version listed standing.now.whole
+        → SeenFor version (tree_of tree.now) (asks (whole_of version listed standing.now.whole)) result }
 {
     match standing.ask() {
         Ask::Take(number, query) => {
             let (path, second) = standing.paths();
-            Heard::Saw(sight(tree, number, &query, path, second))
+            Heard::Saw(sight(version, tree, number, &query, path, second))
         }
         _ => Heard::Locked(Locked::Locks(0, 0)),
     }
@@ -129,10 +139,10 @@ pub(crate) struct Lead {
 }
 
 // The next element from here on.
-fn name_from(path: &[u8], from: usize) -> &[u8]
-    ensures { result.now ≡ name_from from path.now }
+fn name_from(version: Version, path: &[u8], from: usize) -> &[u8]
+    ensures { result.now ≡ name_from version from path.now }
 {
-    match next_element(Version::One, rest_of(path, from)) {
+    match next_element(version, rest_of(path, from)) {
         Some((name, _)) => name,
         None => &[],
     }
@@ -152,12 +162,13 @@ fn failed(action: Action) -> Deed
 }
 
 impl Kept {
-    /// Beside a run that begins with this tree.
-    pub fn new(alloc: Global, tree: Tree) -> Kept
-        ensures kept { result ≡ nothing_kept tree }
+    /// Beside a run that begins with this tree, of an image of this version.
+    pub fn new(alloc: Global, version: Version, tree: Tree) -> Kept
+        ensures kept { result ≡ nothing_kept version tree }
         ensures book { IsBook result nothing_yet }
     {
         Kept {
+            version,
             tree,
             list: Vec::new(alloc),
             events: 0,
@@ -177,7 +188,7 @@ impl Kept {
 
     /// The event starts this call of a hart.
     pub fn starts(&mut self, alloc: Global, hart: u8, call: Call) -> Result<(), NoMemory>
-        requires { IsCall call }
+        requires { IsCall self.old.version call }
         ensures kept { IfOk result (λ _. HasStarted self.old hart call self.new) }
         ensures book { IfOk result (λ _. (b : History) → hart < hart_count → self.old.calls < 2 ^ 64 - 1 → IsBook self.old b
             → IsBook self.new (starts b hart call)) }
@@ -256,7 +267,8 @@ impl Kept {
     }
 
     fn standing(&self, hart: u8) -> Option<&Standing>
-        ensures { MatchOption result (hart_in self.now hart ≡ None) (λ s. hart_in self.now hart ≡ Some s.now) }
+        ensures call { MatchOption result (hart_in self.now hart ≡ None) (λ s. hart_in self.now hart ≡ Some s.now) }
+        ensures fits { IfSome result (λ s. WholeFits self.now.version s.now.listed s.now.whole) }
     {
         match self.harts.get(usize::from(hart)) {
             Some(Some(standing)) => Some(standing),
@@ -266,6 +278,7 @@ impl Kept {
 
     // The hart has this call under way, or none.
     fn put(&mut self, hart: u8, standing: Option<Standing>)
+        requires { StandsFit self.old.version standing }
         ensures { self.new ≡ with_hart self.old hart standing }
     {
         let Some(_) = self.harts.get(usize::from(hart)) else {
@@ -277,6 +290,7 @@ impl Kept {
     // Takes the hart's call out.
     fn take(&mut self, hart: u8) -> Option<Standing>
         ensures call { result ≡ hart_in self.old hart }
+        ensures fits { StandsFit self.old.version result }
         ensures rest { self.new ≡ with_hart self.old hart None }
     {
         let Some(_) = self.harts.get(usize::from(hart)) else {
@@ -287,7 +301,7 @@ impl Kept {
 
     // The move that is made in this step, if its operation acts here and makes one.
     fn mark(&self, hart: u8, heard: Option<Heard>) -> Option<Mark>
-        ensures { MarksBy (tree_of self.now.tree) (hart_in self.now hart) heard result }
+        ensures { MarksBy self.now.version (tree_of self.now.tree) (hart_in self.now hart) heard result }
     {
         let standing = self.standing(hart)?;
         let first = acts_first(&standing.ask());
@@ -295,13 +309,13 @@ impl Kept {
             return None;
         }
         match heard {
-            Some(heard) => standing.mark(&heard),
+            Some(heard) => standing.mark(self.version, &heard),
             None => {
                 if !first {
                     return None;
                 }
-                let heard = seen(&self.tree, standing);
-                standing.mark(&heard)
+                let heard = seen(self.version, &self.tree, standing);
+                standing.mark(self.version, &heard)
             }
         }
     }
@@ -315,7 +329,7 @@ impl Kept {
         };
         match heard {
             Some(heard) => {
-                let goes_on = standing.hear(&heard);
+                let goes_on = standing.hear(self.version, &heard);
                 self.put(hart, goes_on);
             }
             None => {
@@ -464,16 +478,16 @@ impl Kept {
     // The step of a walk acts on the tree, by what that has found, and the walk is over. One that the tree refuses is left out.
     fn acts(&mut self, alloc: Global, step: TreeStep, lead: Lead) -> Result<Option<Deed>, NoMemory>
         requires { IfSome lead.parent (λ d. live_directory ((tree_of self.old.tree).nodes d) ≡ true) }
-        ensures { IfOk result (λ d. IsActed step lead.node (with_name lead.parent (name_from lead.from (path_of step.action))) self.old d
-            self.new) }
+        ensures { IfOk result (λ d. IsActed step lead.node
+            (with_name lead.parent (name_from self.old.version lead.from (path_of step.action))) self.old d self.new) }
     {
         self.set_walk(step.hart, None);
         let found = Found {
             node: lead.node,
             parent: lead.parent,
-            name: name_from(step.action.path(), lead.from),
+            name: name_from(self.version, step.action.path(), lead.from),
         };
-        let answer = self.tree.apply_found(alloc, Version::One, &step, &found);
+        let answer = self.tree.apply_found(alloc, self.version, &step, &found);
         self.deed_of(step, answer)
     }
 
@@ -493,7 +507,7 @@ impl Kept {
             new: 0,
             action,
         };
-        let answer = self.tree.apply(alloc, Version::One, &step);
+        let answer = self.tree.apply(alloc, self.version, &step);
         self.deed_of(step, answer)
     }
 
@@ -502,10 +516,11 @@ impl Kept {
         ensures only { IfOk result (λ _. OnlyMoves self.old self.new) }
         ensures tells { IfOk result (λ d. TellsOf self.old hart Mark.Begin d self.new) }
     {
+        let version = self.version;
         let Some(standing) = self.standing(hart) else {
             return Ok(None);
         };
-        match standing.start(self.directory(hart)) {
+        match standing.start(version, self.directory(hart)) {
             Some(walk) => {
                 self.set_walk(hart, Some(walk));
                 Ok(None)
@@ -536,19 +551,22 @@ impl Kept {
 
     // The walk's place when it has looked up its next element, if it found that and goes on.
     fn next_walk(&self, standing: &Standing, walk: Walk) -> Option<Walk>
-        ensures { let before = walk_of (call_in standing.now.whole) walk in
-            IsNextWalk (call_in standing.now.whole) result before (look (tree_of self.now.tree).nodes before.at before.next) }
+        ensures { let before = walk_of self.now.version (call_in standing.now.whole) walk in
+            IsNextWalk self.now.version (call_in standing.now.whole) result before
+            (look (tree_of self.now.tree).nodes before.at before.next) }
     {
-        let number = self.tree.look(walk.directory, standing.name(walk))?;
-        standing.after(walk, number)
+        let number = self
+            .tree
+            .look(walk.directory, standing.name(self.version, walk))?;
+        standing.after(self.version, walk, number)
     }
 
     // What the walk's step acts by if it doesn't go on: what its directory has under the last element, or nothing.
     fn lead(&self, standing: &Standing, walk: Walk) -> Lead
-        ensures { let before = walk_of (call_in standing.now.whole) walk in
+        ensures { let before = walk_of self.now.version (call_in standing.now.whole) walk in
             LeadsBy result walk before.rest (look (tree_of self.now.tree).nodes before.at before.next) }
     {
-        if !standing.is_last(walk) {
+        if !standing.is_last(self.version, walk) {
             return Lead {
                 node: None,
                 parent: None,
@@ -556,7 +574,9 @@ impl Kept {
             };
         }
         Lead {
-            node: self.tree.look(walk.directory, standing.name(walk)),
+            node: self
+                .tree
+                .look(walk.directory, standing.name(self.version, walk)),
             parent: Some(walk.directory),
             from: walk.from,
         }

@@ -1,6 +1,6 @@
 //! Paths with the element "..", and replies that there is no room.
 ghost use Rattle.std.specs.Prelude.{◌≡◌, ◌+◌, ◌-◌, ◌<◌, ◌++◌, drop, slice_range};
-ghost use Rattle.tree_histories.specs.Vocabulary.{call_climbs, climbs, dotdot, same_name, name_in, IsElement, IsInOne};
+ghost use Rattle.tree_histories.specs.Vocabulary.{Version, call_climbs, climbs, dotdot, same_name, name_in, IsElement, IsInOne};
 ghost use Rattle.tree_histories.specs.Told.{any_climbs, any_full, is_full_reply};
 
 use image_versions::Version;
@@ -24,7 +24,7 @@ fn between(bytes: &[u8], from: usize, to: usize) -> &[u8]
 
 /// The name of an element, which is in a path or in the second one after it.
 pub(crate) fn name_in<'a>(path: &'a [u8], second: &'a [u8], element: &Element) -> &'a [u8]
-    ensures { IsElement (path.now ++ second.now) element.now → IsInOne path.now element.now
+    ensures { (v : Version) → IsElement v (path.now ++ second.now) element.now → IsInOne path.now element.now
         → result.now ≡ name_in (path.now ++ second.now) element.now }
 {
     let len = path.len();

@@ -1,6 +1,6 @@
 //! A list that begins to explain a trace, with the tree to which it leads and how far it has each call.
 ghost use Rattle.std.specs.Prelude.{◌≡◌, ◌<◌, ◌≤◌, ◌++◌, ◌∷◌, [], ℕ, IfOk, IfSome, IsTrue, ◌↔◌, MatchOption, None, Some, false, length, slice_get, slice_index_or, slice_set};
-ghost use Rattle.tree_histories.specs.Vocabulary.{Leads, Chain, acts_of, tree_of, is_nothing};
+ghost use Rattle.tree_histories.specs.Vocabulary.{Version, Leads, Chain, acts_of, tree_of, is_nothing};
 ghost use Rattle.tree_histories.specs.Ordered.{IsDue};
 ghost use Rattle.tree_histories.specs.Searching.{Fits, IsAt, IsKept, IsLimit, IsMore, IsPlaced, IsThrough, IsTimely, IsUndone, end_of, last_event};
 ghost use Rattle.tree_histories.specs.Stands.{next_from, stand_of};
@@ -106,13 +106,13 @@ fn fits(traced: &TracedCall, stand: Stand, then: Stand, answer: &StepAnswer) -> 
 }
 
 /// The tree to which the list leads.
-fn tree_after(alloc: Global, base: &Tree, list: &[Placed]) -> Attempt<Tree>
-    requires { Leads (tree_of base.now) list.now }
-    ensures { IfOk result (λ t. Chain (tree_of base.now) list.now (tree_of t)) }
+fn tree_after(alloc: Global, version: Version, base: &Tree, list: &[Placed]) -> Attempt<Tree>
+    requires { Leads version (tree_of base.now) list.now }
+    ensures { IfOk result (λ t. Chain version (tree_of base.now) list.now (tree_of t)) }
 {
     let mut tree = base.try_clone(alloc)?;
     for entry in list {
-        match tree.apply(alloc, Version::One, &entry.step) {
+        match tree.apply(alloc, version, &entry.step) {
             Ok(_) => {}
             Err(_) => return Err(NoMemory),
         }
@@ -133,7 +133,7 @@ fn last_event(list: &[Placed]) -> u64
 impl Position {
     /// Nothing is placed yet.
     pub(crate) fn begin(alloc: Global, base: &Tree, trace: &Trace) -> Attempt<Position>
-        ensures at { IfOk result (λ p. IsAt base.now trace.now p) }
+        ensures at { IfOk result (λ p. (version : Version) → IsAt version base.now trace.now p) }
         ensures none { IfOk result (λ p. p.list.items ≡ []) }
     {
         let tree = base.try_clone(alloc)?;
@@ -173,6 +173,7 @@ impl Position {
     pub(crate) fn place(
         &mut self,
         alloc: Global,
+        version: Version,
         base: &Tree,
         trace: &Trace,
         id: usize,
@@ -180,9 +181,9 @@ impl Position {
         wish: u64,
         limit: u64,
     ) -> Attempt<Placing>
-        requires at { IsAt base.now trace.now self.old }
+        requires at { IsAt version base.now trace.now self.old }
         requires limit { IsLimit self.old.ends limit }
-        ensures { IfOk result (λ r. IsPlaced base.now trace.now self.old id new wish limit r self.new) }
+        ensures { IfOk result (λ r. IsPlaced version base.now trace.now self.old id new wish limit r self.new) }
     {
         let Some(traced) = trace.calls.as_slice().get(id) else {
             return Ok(Placing::Refused);
@@ -203,14 +204,14 @@ impl Position {
         if !is_in_place(&self.tree, &step) {
             return Ok(Placing::Refused);
         }
-        let answer = match self.tree.apply(alloc, Version::One, &step) {
+        let answer = match self.tree.apply(alloc, version, &step) {
             Ok(answer) => answer,
             Err(ApplyRefused::BadChoice) => return Ok(Placing::BadChoice),
             Err(ApplyRefused::NoMemory) => return Err(NoMemory),
         };
         let then = after(stand, &answer);
         if !fits(traced, stand, then, &answer) {
-            self.tree = tree_after(alloc, base, &self.list)?;
+            self.tree = tree_after(alloc, version, base, &self.list)?;
             return Ok(Placing::Refused);
         }
         let event = event_for(traced, least, wish, limit, trace.events);
@@ -226,9 +227,15 @@ impl Position {
     }
 
     /// Takes the last entry back. There is one, and its call is in the trace.
-    pub(crate) fn undo(&mut self, alloc: Global, base: &Tree, trace: &Trace) -> Attempt<()>
-        requires { IsAt base.now trace.now self.old }
-        ensures { IfOk result (λ _. IsUndone base.now trace.now self.old self.new) }
+    pub(crate) fn undo(
+        &mut self,
+        alloc: Global,
+        version: Version,
+        base: &Tree,
+        trace: &Trace,
+    ) -> Attempt<()>
+        requires { IsAt version base.now trace.now self.old }
+        ensures { IfOk result (λ _. IsUndone version base.now trace.now self.old self.new) }
     {
         let Some(entry) = self.list.pop() else {
             return Err(NoMemory);
@@ -240,7 +247,7 @@ impl Position {
         let stand = stand_in(id, &self.list);
         self.stands[id] = stand;
         self.ends.restore(alloc, id, end_of(traced, stand))?;
-        self.tree = tree_after(alloc, base, &self.list)?;
+        self.tree = tree_after(alloc, version, base, &self.list)?;
         Ok(())
     }
 }

@@ -5,6 +5,7 @@ ghost use Rattle.tree_histories.specs.Searching.{IsAt};
 
 use crate::next::Attempt;
 use crate::position::{Placing, Position};
+use image_versions::Version;
 use plain_tree::{Action, NoMemory, Placed, Trace, Tree};
 use std::alloc::Global;
 
@@ -48,9 +49,16 @@ fn is_same_entry(entry: &Placed, other: &Placed) -> bool
 
 impl Position {
     /// Makes the entry's step: whether it is then an entry with this answer at this event.
-    fn replay(&mut self, alloc: Global, base: &Tree, trace: &Trace, entry: &Placed) -> Attempt<bool>
-        requires { IsAt base.now trace.now self.old }
-        ensures at { IfOk result (λ _. IsAt base.now trace.now self.new) }
+    fn replay(
+        &mut self,
+        alloc: Global,
+        version: Version,
+        base: &Tree,
+        trace: &Trace,
+        entry: &Placed,
+    ) -> Attempt<bool>
+        requires { IsAt version base.now trace.now self.old }
+        ensures at { IfOk result (λ _. IsAt version base.now trace.now self.new) }
         ensures more { IfOk result (λ b. IsTrue b → self.new.list.items ≡ self.old.list.items ++ entry.now ∷ []) }
     {
         let limit = match self.due() {
@@ -59,6 +67,7 @@ impl Position {
         };
         let Placing::Made = self.place(
             alloc,
+            version,
             base,
             trace,
             entry.call,
@@ -78,12 +87,18 @@ impl Position {
 
 /// Whether the list explains the trace, as its steps show, each of which is made once more. It takes as long as they do, where `check`
 /// goes through the list for each call. It says no at the first step that is made otherwise.
-pub fn replays(alloc: Global, base: &Tree, trace: &Trace, list: &[Placed]) -> Result<bool, NoMemory>
-    ensures { IfOk result (λ b. IsTrue b → Explains base.now trace.now list.now) }
+pub fn replays(
+    alloc: Global,
+    version: Version,
+    base: &Tree,
+    trace: &Trace,
+    list: &[Placed],
+) -> Result<bool, NoMemory>
+    ensures { IfOk result (λ b. IsTrue b → Explains version base.now trace.now list.now) }
 {
     let mut position = Position::begin(alloc, base, trace)?;
     for entry in list {
-        if !position.replay(alloc, base, trace, entry)? {
+        if !position.replay(alloc, version, base, trace, entry)? {
             return Ok(false);
         }
     }

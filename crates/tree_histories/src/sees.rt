@@ -1,10 +1,10 @@
 //! What the kept tree shows of a node to who takes its lock.
 ghost use Rattle.std.specs.Prelude.{◌≡◌, ◌<◌, ◌^◌, ◌++◌, ℕ, drop, List, Some};
-ghost use Rattle.tree_histories.specs.Vocabulary.{any_used, size_of, look, tree_of, empty_in, face_seen, found_in, is_empty_kind, type_of_kind, face_of, query_in, type_of, IsSought, IsSoughtInOne};
+ghost use Rattle.tree_histories.specs.Vocabulary.{Version, any_used, size_of, look, tree_of, empty_in, face_seen, found_in, is_empty_kind, type_of_kind, face_of, query_in, type_of, IsSought, IsSoughtInOne};
 ghost use Rattle.tree_histories.specs.Sights.{FewSlots, ShowsSo};
 
 use crate::paths::name_in;
-use image_versions::one::DIRENT_LEN;
+use image_versions::Version;
 use path_walk::{Face, InodeType, Query, Sight};
 use plain_tree::{Node, NodeKind, Slot, Tree};
 
@@ -22,11 +22,11 @@ fn type_of(kind: &NodeKind) -> InodeType
 }
 
 // How many bytes it has.
-fn size_of(kind: &NodeKind) -> u64
-    ensures { FewSlots kind.now → result ≡ size_of kind.now }
+fn size_of(version: Version, kind: &NodeKind) -> u64
+    ensures { FewSlots version kind.now → result ≡ size_of version kind.now }
 {
     match kind {
-        NodeKind::Directory { slots } => (DIRENT_LEN as u64).saturating_mul(
+        NodeKind::Directory { slots } => (version.dirent_len() as u64).saturating_mul(
             slots.as_slice().len() as u64,
         ),
         NodeKind::File { bytes } => bytes.as_slice().len() as u64,
@@ -34,13 +34,13 @@ fn size_of(kind: &NodeKind) -> u64
     }
 }
 
-fn face_of(node: &Node) -> Face
-    ensures { FewSlots node.now.kind → Some (face_of result) ≡ face_seen (Some node.now) }
+fn face_of(version: Version, node: &Node) -> Face
+    ensures { FewSlots version node.now.kind → Some (face_of result) ≡ face_seen version (Some node.now) }
 {
     Face {
         inode_type: type_of(&node.kind),
         count: node.count,
-        size: size_of(&node.kind),
+        size: size_of(version, &node.kind),
     }
 }
 
@@ -88,7 +88,7 @@ fn found(tree: &Tree, number: u32, name: &[u8]) -> Option<u32>
 
 // What it has under the name that is looked for.
 fn found_in(tree: &Tree, number: u32, query: &Query, path: &[u8], second: &[u8]) -> Option<u32>
-    ensures { number < 2 ^ 16 → IsSought (path.now ++ second.now) query.now → IsSoughtInOne path.now query.now
+    ensures { (v : Version) → number < 2 ^ 16 → IsSought v (path.now ++ second.now) query.now → IsSoughtInOne path.now query.now
         → result ≡ found_in number ((tree_of tree.now).nodes number) (query_in (path.now ++ second.now) query.now) }
 {
     match query {
@@ -109,13 +109,20 @@ fn empty_in(node: &Node, query: &Query) -> bool
 
 /// What is seen of the node of this number when this is looked for in it, in a call with this path and a second one
 /// after it. It holds if the node's lock is free, or taken by who looks: nobody else has changes of it in hand.
-pub(crate) fn sight(tree: &Tree, number: u32, query: &Query, path: &[u8], second: &[u8]) -> Sight
-    ensures { ShowsSo (tree_of tree.now) number query.now path.now second.now result }
+pub(crate) fn sight(
+    version: Version,
+    tree: &Tree,
+    number: u32,
+    query: &Query,
+    path: &[u8],
+    second: &[u8],
+) -> Sight
+    ensures { ShowsSo version (tree_of tree.now) number query.now path.now second.now result }
 {
     let found = found_in(tree, number, query, path, second);
     match tree.node(number as usize) {
         Some(node) => Sight {
-            face: Some(face_of(node)),
+            face: Some(face_of(version, node)),
             found,
             empty: empty_in(node, query),
         },

@@ -9,7 +9,7 @@ ghost use Rattle.path_walk.specs.Asks.{asks, mark_at, marked_as, op_in, piece_of
 ghost use Rattle.whole_calls.specs.Wholes.{HasRoomFor, IsCall, WholeAsks, WholeFits, action_in, call_in, first_in, second_in, text_in, whole_of};
 ghost use Rattle.tree_histories.specs.Keeping.{HearsSo, IsNewCall, ReadsTooMuch, walking};
 ghost use Rattle.tree_histories.specs.Walks.{IsWalk, are_none, is_on_new, is_past_old, left_to, step_for, step_in, walk_of};
-ghost use Rattle.plain_tree.specs.VersionOne.{elements};
+ghost use Rattle.tree_histories.specs.Vocabulary.{Version, elements};
 
 use crate::paths::rest_of;
 use image_versions::Version;
@@ -46,14 +46,11 @@ pub(crate) struct Standing {
 }
 
 impl Model for Standing {
-    ghost use Rattle.whole_calls.specs.Wholes.{WholeFits};
     ghost use Rattle.tree_histories.specs.Keeping.{Under};
 
     ghost Value = { Under };
 
     ghost view = { λ s. record { id = s.id; whole = s.whole; listed = s.list; walk = s.walk; has_begun = s.has_begun } };
-
-    ghost invariant = { λ s. WholeFits s.list s.whole };
 }
 
 // Whether no more was heard to be read than the call's buffer has.
@@ -188,8 +185,7 @@ fn link_step(old: &Bytes, new: &Bytes, is_new: bool) -> Result<Action, NoMemory>
 impl Standing {
     /// A call that begins, the one at this place of the trace.
     pub(crate) fn new(alloc: Global, id: usize, call: Call) -> Result<Standing, NoMemory>
-        requires { IsCall call }
-        ensures { IfOk result (λ s. IsNewCall id call s) }
+        ensures { IfOk result (λ s. (v : Version) → IsCall v call → IsNewCall v id call s) }
     {
         let list = Numbers::new(alloc)?;
         let whole = Whole::new(call);
@@ -236,9 +232,9 @@ impl Standing {
 
     /// Its next operation, if it has listed these inodes.
     pub(crate) fn ask(&self) -> Ask
-        ensures asks { (listed : List ℕ) → WholeFits listed self.now.whole
-            → asks (whole_of listed self.now.whole) ≡ Some (op_in (text_in self.now.whole) result) }
-        ensures named { (listed : List ℕ) → WholeFits listed self.now.whole → WholeAsks self.now.whole result }
+        ensures asks { (v : Version) (listed : List ℕ) → WholeFits v listed self.now.whole
+            → asks (whole_of v listed self.now.whole) ≡ Some (op_in (text_in self.now.whole) result) }
+        ensures named { (v : Version) (listed : List ℕ) → WholeFits v listed self.now.whole → WholeAsks v self.now.whole result }
     {
         self.whole.ask()
     }
@@ -251,15 +247,18 @@ impl Standing {
     }
 
     /// The mark of its operation at this answer.
-    pub(crate) fn mark(&self, heard: &Heard) -> Option<Mark>
-        ensures { (listed : List ℕ) → mark_at (whole_of listed self.now.whole) heard.now ≡ marked_as (action_in self.now.whole) result }
+    pub(crate) fn mark(&self, version: Version, heard: &Heard) -> Option<Mark>
+        requires { WholeFits version self.now.listed self.now.whole }
+        ensures { (listed : List ℕ)
+            → mark_at (whole_of version listed self.now.whole) heard.now ≡ marked_as (action_in self.now.whole) result }
     {
-        self.whole.mark(heard)
+        self.whole.mark(version, heard)
     }
 
     /// It goes on with what it heard; none if it has ended.
-    pub(crate) fn hear(self, heard: &Heard) -> Option<Standing>
-        ensures { HearsSo self heard.now result }
+    pub(crate) fn hear(self, version: Version, heard: &Heard) -> Option<Standing>
+        requires { WholeFits version self.listed self.whole }
+        ensures { HearsSo version self heard.now result }
     {
         let Standing {
             id,
@@ -274,7 +273,7 @@ impl Standing {
         if !has_room(&whole, heard) {
             return None;
         }
-        if whole.next(heard, &mut list, &mut says) {
+        if whole.next(version, heard, &mut list, &mut says) {
             return None;
         }
         Some(Standing {
@@ -294,13 +293,14 @@ impl Standing {
     }
 
     /// The walk at the start of its path, if the path has elements; `current` is the hart's directory.
-    pub(crate) fn start(&self, current: u16) -> Option<Walk>
+    pub(crate) fn start(&self, version: Version, current: u16) -> Option<Walk>
         ensures { let path = path_of (action_in self.now.whole) in
-            IsWalk (call_in self.now.whole) result (action_in self.now.whole) (if is_absolute path then root else current) (elements path) }
+            IsWalk version (call_in self.now.whole) result (action_in self.now.whole) (if is_absolute path then root else current)
+            (elements version path) }
     {
         let is_new = is_on_new(&self.whole);
         let path = path(&self.whole, is_new);
-        let _element = next_element(Version::One, path)?;
+        let _element = next_element(version, path)?;
         Some(Walk {
             directory: start_of(path, current),
             from: 0,
@@ -309,39 +309,33 @@ impl Standing {
     }
 
     /// The name that the walk looks up next.
-    pub(crate) fn name(&self, walk: Walk) -> &[u8]
-        ensures { result.now ≡ (walk_of (call_in self.now.whole) walk).next }
+    pub(crate) fn name(&self, version: Version, walk: Walk) -> &[u8]
+        ensures { result.now ≡ (walk_of version (call_in self.now.whole) walk).next }
     {
-        match next_element(
-            Version::One,
-            rest_of(path(&self.whole, walk.is_new), walk.from),
-        ) {
+        match next_element(version, rest_of(path(&self.whole, walk.is_new), walk.from)) {
             Some((name, _)) => name,
             None => &[],
         }
     }
 
     /// Whether the walk's next element is the last one.
-    pub(crate) fn is_last(&self, walk: Walk) -> bool
-        ensures { result ≡ are_none (walk_of (call_in self.now.whole) walk).rest }
+    pub(crate) fn is_last(&self, version: Version, walk: Walk) -> bool
+        ensures { result ≡ are_none (walk_of version (call_in self.now.whole) walk).rest }
     {
-        match next_element(
-            Version::One,
-            rest_of(path(&self.whole, walk.is_new), walk.from),
-        ) {
-            Some((_, rest)) => next_element(Version::One, rest).is_none(),
+        match next_element(version, rest_of(path(&self.whole, walk.is_new), walk.from)) {
+            Some((_, rest)) => next_element(version, rest).is_none(),
             None => true,
         }
     }
 
     /// The walk in this node, which it has found, if its path goes on.
-    pub(crate) fn after(&self, walk: Walk, number: u16) -> Option<Walk>
-        ensures { let before = walk_of (call_in self.now.whole) walk in
-            IsWalk (call_in self.now.whole) result before.step number before.rest }
+    pub(crate) fn after(&self, version: Version, walk: Walk, number: u16) -> Option<Walk>
+        ensures { let before = walk_of version (call_in self.now.whole) walk in
+            IsWalk version (call_in self.now.whole) result before.step number before.rest }
     {
         let path = path(&self.whole, walk.is_new);
-        let (_, rest) = next_element(Version::One, rest_of(path, walk.from))?;
-        let _element = next_element(Version::One, rest)?;
+        let (_, rest) = next_element(version, rest_of(path, walk.from))?;
+        let _element = next_element(version, rest)?;
         Some(Walk {
             directory: number,
             from: path.len().saturating_sub(rest.len()),
@@ -351,7 +345,7 @@ impl Standing {
 
     /// The tree step that the walk is for.
     pub(crate) fn step(&self, walk: Walk) -> Result<Action, NoMemory>
-        ensures { IfOk result (λ s. s ≡ (walk_of (call_in self.now.whole) walk).step) }
+        ensures { IfOk result (λ s. s ≡ step_for (call_in self.now.whole) walk.is_new) }
     {
         step(&self.whole, walk.is_new)
     }

@@ -12,3 +12,4 @@ pub use Rattle.whole_calls.specs.Links.{LinkFits, link_stage, new_after, old_aft
 pub use Rattle.whole_calls.specs.Makes.{mkdir_stage}
 pub use Rattle.whole_calls.specs.Opens.{open_stage}
 pub use Rattle.whole_calls.specs.Reads.{ReadAsks}
+pub use Rattle.whole_calls.specs.Writes.{WriteAsks, WriteFits}

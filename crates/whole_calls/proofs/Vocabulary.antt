@@ -4,7 +4,7 @@ unfoldable pub use Rattle.whole_calls.specs.Vocabulary.{same_name}
 pub use Rattle.inode_machine.proofs.Vocabulary.{AtName, Bool, List, [], ap, append-nil, arith, false, inl, inr, length, length-append, refl, subst, suc, sym, take, true, zero, ℕ, ◌&&◌, ◌++◌, ◌+◌, ◌-◌, ◌||◌, ◌∙◌, ◌∷◌, ◌≡◌, ◌≢◌, ◌≤◌}
 pub use Rattle.path_walk.specs.Asks.{OnlySeeks}
 pub use Rattle.path_walk.specs.Elements.{IsInOne, shifted}
-pub use Rattle.path_walk.specs.VersionOne.{IsName}
+pub use Rattle.path_walk.specs.Names.{IsName}
 pub use Rattle.std.proofs.Common.{drop, get_or, length-drop, nat_eq}
 pub use Rattle.std.proofs.Math.Seq.{drop-append-add}
 pub use Rattle.std.proofs.lemmas.List.{drop-append-le, take-append-le}

@@ -1,6 +1,7 @@
 -- The rest of a mkdir.
 use Rattle.std.specs.Prelude.{ℕ, ◌+◌, List, Option, Some, None, if◌then◌else◌}
 use Rattle.whole_calls.specs.Vocabulary.{Name, NoEntry, MemInodes, Blocks, Reply, Do, unmarked, name_in, OfDirectory, Face, Orphans, Claim, Forget, Store, Fill, Enter, P, mends_if_full, failed, full, done, give_up, tail, stopped, entered_file, mends_unless_new, unmake, mkdir_in, mkdir_other, mkdir_program, mkdir_with, name_directory, face_of, reply_to, After, walk_of}
+use Rattle.image_versions.specs.declared.version.Version.{Version}
 use Rattle.plain_tree.specs.declared.call.Call.TheVariants as calls
 use Rattle.plain_tree.specs.declared.step.Action.TheVariants as steps
 use Rattle.whole_calls.specs.Calls.{Stage, Fresh, Walks, Names, Past}
@@ -26,21 +27,21 @@ abbrev pub fills : List ℕ → List ℕ → NewName → Face → P Reply
 fills path ns x f = Do (Fill x.number x.directory) mends_if_full
     (λ there. if there then enters path ns x f else unmake x.number x.directory ns (full (calls.Mkdir path) Blocks))
 
-abbrev pub mkdir_of : List ℕ → List ℕ → Mkdir → P Reply
-mkdir_of path ns making.Join = mkdir_program path
-mkdir_of path ns (making.Walks w) = walk_of (steps.Mkdir path) path (mkdir_after path) goal.Parent ns w
-mkdir_of path ns (making.Look d e) = mkdir_in path d (name_in path e) ns
-mkdir_of path ns (making.Claim d e f) = Do (Claim OfDirectory) mends_unless_new (mkdir_with path d (name_in path e) ns (face_of f))
-mkdir_of path ns (making.ForgetSame d) = Do (Forget d) unmarked (λ _. give_up d (tail ns (full (calls.Mkdir path) MemInodes)))
-mkdir_of path ns (making.TakeNew x f) = mkdir_other path x.directory (name_in path x.element) ns (face_of f) x.number
-mkdir_of path ns (making.StoreNew x f) = Do (Store x.number 1) unmarked (λ _. fills path ns x (face_of f))
-mkdir_of path ns (making.Fill x f) = fills path ns x (face_of f)
-mkdir_of path ns (making.Enter x f) = enters path ns x (face_of f)
-mkdir_of path ns (making.Raise x f) =
+abbrev pub mkdir_of : Version → List ℕ → List ℕ → Mkdir → P Reply
+mkdir_of v path ns making.Join = mkdir_program v path
+mkdir_of v path ns (making.Walks w) = walk_of v (steps.Mkdir path) path (mkdir_after path) goal.Parent ns w
+mkdir_of v path ns (making.Look d e) = mkdir_in path d (name_in path e) ns
+mkdir_of v path ns (making.Claim d e f) = Do (Claim OfDirectory) mends_unless_new (mkdir_with path d (name_in path e) ns (face_of f))
+mkdir_of v path ns (making.ForgetSame d) = Do (Forget d) unmarked (λ _. give_up d (tail ns (full (calls.Mkdir path) MemInodes)))
+mkdir_of v path ns (making.TakeNew x f) = mkdir_other path x.directory (name_in path x.element) ns (face_of f) x.number
+mkdir_of v path ns (making.StoreNew x f) = Do (Store x.number 1) unmarked (λ _. fills path ns x (face_of f))
+mkdir_of v path ns (making.Fill x f) = fills path ns x (face_of f)
+mkdir_of v path ns (making.Enter x f) = enters path ns x (face_of f)
+mkdir_of v path ns (making.Raise x f) =
     Do (Store x.directory (f.count + 1)) unmarked (λ _. give_up x.directory (give_up x.number (tail ns (done (calls.Mkdir path)))))
-mkdir_of path ns (making.Unmake x a) = Do (Store x.number 0) (λ _. Some (Orphans x.number))
+mkdir_of v path ns (making.Unmake x a) = Do (Store x.number 0) (λ _. Some (Orphans x.number))
     (λ _. give_up x.number (give_up x.directory (tail ns (reply_to (calls.Mkdir path) a))))
-mkdir_of path ns (making.Ends e) = ending_of (calls.Mkdir path) ns e
+mkdir_of v path ns (making.Ends e) = ending_of (calls.Mkdir path) ns e
 
 abbrev pub mkdir_stage : Mkdir → Stage
 mkdir_stage making.Join = Fresh

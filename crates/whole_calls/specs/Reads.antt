@@ -1,6 +1,7 @@
 -- The rest of a read.
 use Rattle.std.specs.Prelude.{◌≡◌, ◌≤◌, ℕ, ◌++◌, List, take, drop, length}
 use Rattle.whole_calls.specs.Vocabulary.{Reply, LocksIt, P, say, read_on, read_program, count_in, reply_to, IsNamed, Ask, Heard}
+use Rattle.image_versions.specs.declared.version.Version.{Version}
 use Rattle.plain_tree.specs.declared.answer.Answer.TheVariants as answers
 use Rattle.plain_tree.specs.declared.call.Call.TheVariants as calls
 use Rattle.path_walk.specs.declared.asks.Ask.TheVariants as ask
@@ -19,9 +20,9 @@ FilledFrom old new (reading.Part n offset) x = new ≡ take (count_in x) new ++ 
 FilledFrom old new (reading.Says count) x = new ≡ old
 
 -- if a part must be read, as much of it is asked as the buffer has room for
-abbrev pub ReadAsks : List ℕ → Read → Ask → Type 0
-ReadAsks buffer (reading.Part n offset) (ask.ReadFile fd m at count) = count ≡ length buffer
-ReadAsks buffer c a = IsNamed buffer a
+abbrev pub ReadAsks : Version → List ℕ → Read → Ask → Type 0
+ReadAsks v buffer (reading.Part n offset) (ask.ReadFile fd m at count) = count ≡ length buffer
+ReadAsks v buffer c a = IsNamed v buffer a
 
 -- no more is read then than that
 abbrev pub HasRoomIn : List ℕ → Read → Heard → Type 0

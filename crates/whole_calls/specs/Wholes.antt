@@ -1,6 +1,7 @@
 -- The rest of a call, whichever it is.
 use Rattle.std.specs.Prelude.{◌≢◌, ◌≤◌, ◌<◌, ◌^◌, ◌+◌, ℕ, Bool, List, [], ◌++◌, length, All}
 use Rattle.whole_calls.specs.Vocabulary.{elements, CallAnswer, Reply, Call, Action, P, stepped, IsNamed, IsNamedInTwo, Ask, Heard}
+use Rattle.image_versions.specs.declared.version.Version.{Version}
 use Rattle.plain_tree.specs.declared.call.Call.TheVariants as calls
 use Rattle.plain_tree.specs.declared.step.Action.TheVariants as steps
 use Rattle.whole_calls.specs.Calls.{Fits, chdir_of, chdir_stage, dup_of, most_listed, stat_of, unlink_of, unlink_stage}
@@ -14,18 +15,18 @@ use Rattle.whole_calls.specs.declared.whole.Whole.{Whole}
 use Rattle.whole_calls.specs.declared.whole.Whole.TheVariants as whole
 
 -- the rest of it, if its list is this
-abbrev pub whole_of : List ℕ → Whole → P Reply
-whole_of ns (whole.Open path flags c) = open_of path flags ns c
-whole_of ns (whole.Read fd buf c) = read_of fd buf.items c
-whole_of ns (whole.Write fd bytes c) = write_of fd bytes c
-whole_of ns (whole.Link old new c) = link_of old new ns c
-whole_of ns (whole.Unlink path c) = unlink_of path ns c
-whole_of ns (whole.Mkdir path c) = mkdir_of path ns c
-whole_of ns (whole.Chdir path c) = chdir_of path ns c
-whole_of ns (whole.Dup fd c) = dup_of fd c
-whole_of ns (whole.Fstat fd c) = stat_of fd c
-whole_of ns (whole.Close fd c) = close_of fd c
-whole_of ns (whole.Inherit child c) = inherit_of child c
+abbrev pub whole_of : Version → List ℕ → Whole → P Reply
+whole_of v ns (whole.Open path flags c) = open_of v path flags ns c
+whole_of v ns (whole.Read fd buf c) = read_of fd buf.items c
+whole_of v ns (whole.Write fd bytes c) = write_of fd bytes c
+whole_of v ns (whole.Link old new c) = link_of v old new ns c
+whole_of v ns (whole.Unlink path c) = unlink_of v path ns c
+whole_of v ns (whole.Mkdir path c) = mkdir_of v path ns c
+whole_of v ns (whole.Chdir path c) = chdir_of v path ns c
+whole_of v ns (whole.Dup fd c) = dup_of fd c
+whole_of v ns (whole.Fstat fd c) = stat_of fd c
+whole_of v ns (whole.Close fd c) = close_of fd c
+whole_of v ns (whole.Inherit child c) = inherit_of child c
 
 abbrev pub call_in : Whole → Call
 call_in (whole.Open path flags c) = calls.Open path flags
@@ -78,39 +79,39 @@ action_in (whole.Close fd c) = steps.Close fd
 action_in (whole.Inherit child c) = steps.Inherit child
 
 -- stepped in its place, with its answer if it has ended
-abbrev pub went_to : List ℕ → Whole → CallAnswer → Bool → P Reply
-went_to ns w a ended = stepped (whole_of ns w) (call_in w) a ended
+abbrev pub went_to : Version → List ℕ → Whole → CallAnswer → Bool → P Reply
+went_to v ns w a ended = stepped (whole_of v ns w) (call_in w) a ended
 
 -- no byte of it is 0
 abbrev pub IsPath : List ℕ → Type 0
 IsPath path = All (λ b. b ≢ 0) path
 
-abbrev pub WholeFits : List ℕ → Whole → Type 0
-WholeFits ns (whole.Open path flags c) = IsPath path × Fits path ns (open_stage c)
-WholeFits ns (whole.Read fd buf c) = (length buf.items < 2 ^ 31) × ReadFits buf.items c
-WholeFits ns (whole.Write fd bytes c) = (length bytes < 2 ^ 31) × WriteFits bytes c
-WholeFits ns (whole.Link old new c) = IsPath old × IsPath new × LinkFits old new ns (link_stage c)
-WholeFits ns (whole.Unlink path c) = IsPath path × Fits path ns (unlink_stage c)
-WholeFits ns (whole.Mkdir path c) = IsPath path × Fits path ns (mkdir_stage c)
-WholeFits ns (whole.Chdir path c) = IsPath path × Fits path ns (chdir_stage c)
-WholeFits ns (whole.Dup fd c) = Unit {0}
-WholeFits ns (whole.Fstat fd c) = Unit {0}
-WholeFits ns (whole.Close fd c) = Unit {0}
-WholeFits ns (whole.Inherit child c) = Unit {0}
+abbrev pub WholeFits : Version → List ℕ → Whole → Type 0
+WholeFits v ns (whole.Open path flags c) = IsPath path × Fits v path ns (open_stage c)
+WholeFits v ns (whole.Read fd buf c) = (length buf.items < 2 ^ 31) × ReadFits buf.items c
+WholeFits v ns (whole.Write fd bytes c) = (length bytes < 2 ^ 31) × WriteFits bytes c
+WholeFits v ns (whole.Link old new c) = IsPath old × IsPath new × LinkFits v old new ns (link_stage c)
+WholeFits v ns (whole.Unlink path c) = IsPath path × Fits v path ns (unlink_stage c)
+WholeFits v ns (whole.Mkdir path c) = IsPath path × Fits v path ns (mkdir_stage c)
+WholeFits v ns (whole.Chdir path c) = IsPath path × Fits v path ns (chdir_stage c)
+WholeFits v ns (whole.Dup fd c) = Unit {0}
+WholeFits v ns (whole.Fstat fd c) = Unit {0}
+WholeFits v ns (whole.Close fd c) = Unit {0}
+WholeFits v ns (whole.Inherit child c) = Unit {0}
 
 -- what it asks is in its text: a read alone asks to read, and a write to write
-abbrev pub WholeAsks : Whole → Ask → Type 0
-WholeAsks (whole.Read fd buf c) a = ReadAsks buf.items c a
-WholeAsks (whole.Open path flags c) a = IsNamed path a
-WholeAsks (whole.Write fd bytes c) a = WriteAsks bytes a
-WholeAsks (whole.Link old new c) a = IsNamedInTwo old new a
-WholeAsks (whole.Unlink path c) a = IsNamed path a
-WholeAsks (whole.Mkdir path c) a = IsNamed path a
-WholeAsks (whole.Chdir path c) a = IsNamed path a
-WholeAsks (whole.Dup fd c) a = IsNamed [] a
-WholeAsks (whole.Fstat fd c) a = IsNamed [] a
-WholeAsks (whole.Close fd c) a = IsNamed [] a
-WholeAsks (whole.Inherit child c) a = IsNamed [] a
+abbrev pub WholeAsks : Version → Whole → Ask → Type 0
+WholeAsks v (whole.Read fd buf c) a = ReadAsks v buf.items c a
+WholeAsks v (whole.Open path flags c) a = IsNamed v path a
+WholeAsks v (whole.Write fd bytes c) a = WriteAsks v bytes a
+WholeAsks v (whole.Link old new c) a = IsNamedInTwo v old new a
+WholeAsks v (whole.Unlink path c) a = IsNamed v path a
+WholeAsks v (whole.Mkdir path c) a = IsNamed v path a
+WholeAsks v (whole.Chdir path c) a = IsNamed v path a
+WholeAsks v (whole.Dup fd c) a = IsNamed v [] a
+WholeAsks v (whole.Fstat fd c) a = IsNamed v [] a
+WholeAsks v (whole.Close fd c) a = IsNamed v [] a
+WholeAsks v (whole.Inherit child c) a = IsNamed v [] a
 
 -- no more is read than the buffer has
 abbrev pub HasRoomFor : Heard → Whole → Type 0
@@ -127,15 +128,15 @@ HasRoomFor x (whole.Close fd c) = Unit {0}
 HasRoomFor x (whole.Inherit child c) = Unit {0}
 
 -- what a start asks of a call
-abbrev pub IsCall : Call → Type 0
-IsCall (calls.Open path flags) = IsPath path × (length (elements path) ≤ most_listed)
-IsCall (calls.Read fd buf) = length buf < 2 ^ 31
-IsCall (calls.Write fd bytes) = length bytes < 2 ^ 31
-IsCall (calls.Link old new) = IsPath old × IsPath new × (length (elements old) + length (elements new) ≤ most_listed)
-IsCall (calls.Unlink path) = IsPath path × (length (elements path) ≤ most_listed)
-IsCall (calls.Mkdir path) = IsPath path × (length (elements path) ≤ most_listed)
-IsCall (calls.Chdir path) = IsPath path × (length (elements path) ≤ most_listed)
-IsCall (calls.Dup fd) = Unit {0}
-IsCall (calls.Fstat fd) = Unit {0}
-IsCall (calls.Close fd) = Unit {0}
-IsCall (calls.Inherit child) = Unit {0}
+abbrev pub IsCall : Version → Call → Type 0
+IsCall v (calls.Open path flags) = IsPath path × (length (elements v path) ≤ most_listed)
+IsCall v (calls.Read fd buf) = length buf < 2 ^ 31
+IsCall v (calls.Write fd bytes) = length bytes < 2 ^ 31
+IsCall v (calls.Link old new) = IsPath old × IsPath new × (length (elements v old) + length (elements v new) ≤ most_listed)
+IsCall v (calls.Unlink path) = IsPath path × (length (elements v path) ≤ most_listed)
+IsCall v (calls.Mkdir path) = IsPath path × (length (elements v path) ≤ most_listed)
+IsCall v (calls.Chdir path) = IsPath path × (length (elements v path) ≤ most_listed)
+IsCall v (calls.Dup fd) = Unit {0}
+IsCall v (calls.Fstat fd) = Unit {0}
+IsCall v (calls.Close fd) = Unit {0}
+IsCall v (calls.Inherit child) = Unit {0}

@@ -1,6 +1,7 @@
 -- The rest of a write.
 use Rattle.std.specs.Prelude.{◌≡◌, ◌≤◌, ℕ, zero, suc, ◌+◌, ◌*◌, List, [], length}
 use Rattle.whole_calls.specs.Vocabulary.{piece, piece_count, piece_len, Reply, Do, unmarked, JoinFile, WriteFile, Join, Leave, P, say, joined_on, refused_to, write_from, write_piece, write_program, write_reply, writes, wrote_on, reply_to, wrote_of, IsNamed, Ask}
+use Rattle.image_versions.specs.declared.version.Version.{Version}
 use Rattle.plain_tree.specs.declared.call.Call.TheVariants as calls
 use Rattle.path_walk.specs.declared.asks.Ask.TheVariants as ask
 use Rattle.whole_calls.specs.declared.writing.Piece.{Piece}
@@ -27,9 +28,9 @@ module _ (fd : ℕ) (bytes : List ℕ) where
   write_of (writing.Says a) = say (reply_to (calls.Write fd bytes) a)
 
 -- a piece that is to be written begins within the bytes
-abbrev pub WriteAsks : List ℕ → Ask → Type 0
-WriteAsks bytes (ask.WriteFile fd n offset i) = piece_len * i ≤ length bytes
-WriteAsks bytes a = IsNamed bytes a
+abbrev pub WriteAsks : Version → List ℕ → Ask → Type 0
+WriteAsks v bytes (ask.WriteFile fd n offset i) = piece_len * i ≤ length bytes
+WriteAsks v bytes a = IsNamed v bytes a
 
 -- it is one of theirs, with `more` others after it
 abbrev pub IsPieceOf : List ℕ → Piece → Type 0

@@ -1,5 +1,6 @@
 //! close and inherit.
 ghost use Rattle.std.specs.Prelude.{◌≡◌, ℕ, [], List, Option, Some};
+ghost use Rattle.image_versions.specs.declared.version.Version.{Version};
 ghost use Rattle.plain_tree.specs.declared.call.Call.TheVariants as calls;
 ghost use Rattle.plain_tree.specs.declared.step.Action.TheVariants as steps;
 ghost use Rattle.whole_calls.specs.Vocabulary.{asks, hears, loan_of, mark_at, marked_as, op_in, stepped, IsNamed, inherit_program, lend_from, lend_on};
@@ -23,7 +24,7 @@ impl Close {
     #[inline(always)]
     pub fn ask(&self, fd: u32) -> Ask
         ensures asks { asks (close_of fd self.now) ≡ Some (op_in [] result) }
-        ensures named { (path : List ℕ) → IsNamed path result }
+        ensures named { (v : Version) (path : List ℕ) → IsNamed v path result }
     {
         match self {
             Close::Shut => Ask::Shut(fd),
@@ -119,7 +120,7 @@ impl Inherit {
     #[inline(always)]
     pub fn ask(&self, child: u8) -> Ask
         ensures asks { asks (inherit_of child self.now) ≡ Some (op_in [] result) }
-        ensures named { (path : List ℕ) → IsNamed path result }
+        ensures named { (v : Version) (path : List ℕ) → IsNamed v path result }
     {
         match self {
             Inherit::Lend(_, from) => Ask::Lend(child, *from),

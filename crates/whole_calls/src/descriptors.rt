@@ -1,5 +1,6 @@
 //! dup and fstat.
 ghost use Rattle.std.specs.Prelude.{◌≡◌, ℕ, [], List, Option, Some};
+ghost use Rattle.image_versions.specs.declared.version.Version.{Version};
 ghost use Rattle.plain_tree.specs.declared.call.Call.TheVariants as calls;
 ghost use Rattle.plain_tree.specs.declared.step.Action.TheVariants as steps;
 ghost use Rattle.whole_calls.specs.Vocabulary.{asks, hears, mark_at, marked_as, op_in, stepped, face_of, IsNamed, stat_of_face};
@@ -19,7 +20,7 @@ pub enum Dup {
 impl Dup {
     pub fn ask(&self, fd: u32) -> Ask
         ensures asks { asks (dup_of fd self.now) ≡ Some (op_in [] result) }
-        ensures named { (path : List ℕ) → IsNamed path result }
+        ensures named { (v : Version) (path : List ℕ) → IsNamed v path result }
     {
         match self {
             Dup::Double => Ask::Double(fd),
@@ -90,7 +91,7 @@ fn stat_answer(number: u16, face: &Face) -> Answer
 impl Fstat {
     pub fn ask(&self, fd: u32) -> Ask
         ensures asks { asks (stat_of fd self.now) ≡ Some (op_in [] result) }
-        ensures named { (path : List ℕ) → IsNamed path result }
+        ensures named { (v : Version) (path : List ℕ) → IsNamed v path result }
     {
         match self {
             Fstat::Look => Ask::StatFile(fd),

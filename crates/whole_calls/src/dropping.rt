@@ -1,5 +1,6 @@
 //! A reference dropped.
 ghost use Rattle.std.specs.Prelude.{◌≡◌, ℕ, List, Option, Some};
+ghost use Rattle.image_versions.specs.declared.version.Version.{Version};
 ghost use Rattle.whole_calls.specs.Vocabulary.{Reply, Action, asks, hears, mark_at, marked_as, op_in, IsNamed, P};
 ghost use Rattle.whole_calls.specs.Ends.{after_drop, dropping_of};
 
@@ -19,7 +20,7 @@ pub enum Dropping {
 impl Dropping {
     pub fn ask(&self) -> Ask
         ensures asks { (path : List ℕ) (k : P Reply) → asks (dropping_of k self.now) ≡ Some (op_in path result) }
-        ensures named { (path : List ℕ) → IsNamed path result }
+        ensures named { (v : Version) (path : List ℕ) → IsNamed v path result }
     {
         match self {
             Dropping::UnlockInode(n) | Dropping::GiveFreed(n) => Ask::UnlockInode(*n),

@@ -1,5 +1,6 @@
 //! The end of a call with a transaction.
 ghost use Rattle.std.specs.Prelude.{◌≡◌, ℕ, List, Option, Some};
+ghost use Rattle.image_versions.specs.declared.version.Version.{Version};
 ghost use Rattle.whole_calls.specs.Vocabulary.{Reply, Call, Action, asks, hears, mark_at, marked_as, op_in, reply_to, stepped, IsNamed, P, free_all, say};
 ghost use Rattle.whole_calls.specs.Ends.{after_free, ending_of, freeing_of};
 
@@ -19,7 +20,7 @@ pub enum Freeing {
 impl Freeing {
     pub fn ask(&self) -> Ask
         ensures asks { (path : List ℕ) (k : P Reply) → asks (freeing_of k self.now) ≡ Some (op_in path result) }
-        ensures named { (path : List ℕ) → IsNamed path result }
+        ensures named { (v : Version) (path : List ℕ) → IsNamed v path result }
     {
         match self {
             Freeing::Join(_) => Ask::Join,
@@ -81,7 +82,7 @@ impl Ending {
     #[inline(always)]
     pub fn ask(&self) -> Ask
         ensures asks { (path : List ℕ) (call : Call) (list : List ℕ) → asks (ending_of call list self.now) ≡ Some (op_in path result) }
-        ensures named { (path : List ℕ) → IsNamed path result }
+        ensures named { (v : Version) (path : List ℕ) → IsNamed v path result }
     {
         match self {
             Ending::GivesTwo(dropping, _, _) | Ending::Gives(dropping, _) => dropping.ask(),

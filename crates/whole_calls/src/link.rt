@@ -1,5 +1,6 @@
 //! link: the count goes up first, and down again if the name can't be entered.
 ghost use Rattle.std.specs.Prelude.{◌≡◌, ◌≢◌, ◌≤◌, ◌+◌, ◌++◌, ℕ, All, List, Option, Some, length, false};
+ghost use Rattle.image_versions.specs.declared.version.Version.{Version};
 ghost use Rattle.whole_calls.specs.Vocabulary.{elements, asks, entered_in, face_of, hears, mark_at, marked_as, op_in, reply_to, sight_of, stepped, IsNamedInTwo, IsElement, face_or, bump_refused, lower, named_on, give_up, tail, Heard};
 ghost use Rattle.plain_tree.specs.declared.call.Call.TheVariants as calls;
 ghost use Rattle.whole_calls.specs.Links.{link_action, link_of, link_stage, LinkFits, Past, took};
@@ -39,8 +40,8 @@ pub enum Link {
 
 // Gives an inode up, and answers this.
 fn refuse(number: u32, answer: Answer) -> Link
-    ensures program { (old new list : List ℕ)
-        → link_of old new list result ≡ give_up number (tail list (reply_to (calls.Link old new) answer)) }
+    ensures program { (v : Version) (old new list : List ℕ)
+        → link_of v old new list result ≡ give_up number (tail list (reply_to (calls.Link old new) answer)) }
     ensures past { link_stage result ≡ Past }
 {
     Link::Ends(Ending::Gives(Dropping::UnlockInode(number), answer))
@@ -59,8 +60,10 @@ fn refusal(face: &Face) -> Option<Cause>
 
 // What is to get the name was taken.
 fn took(number: u32, sight: &Sight) -> Link
-    ensures program { (old new list : List ℕ) → link_of old new list result ≡ took old new number list (face_or (sight_of sight.now).face) }
-    ensures fits { (old new list : List ℕ) → length list + length (elements new) ≤ MOST_LISTED → LinkFits old new list (link_stage result) }
+    ensures program { (v : Version) (old new list : List ℕ)
+        → link_of v old new list result ≡ took v old new number list (face_or (sight_of sight.now).face) }
+    ensures fits { (v : Version) (old new list : List ℕ) → length list + length (elements v new) ≤ MOST_LISTED
+        → LinkFits v old new list (link_stage result) }
 {
     let face = face_or(sight);
     if is_directory(sight) {
@@ -73,14 +76,14 @@ fn took(number: u32, sight: &Sight) -> Link
 }
 
 // It was given up with its count raised.
-fn gave(number: u32, new: &[u8]) -> Link
+fn gave(version: Version, number: u32, new: &[u8]) -> Link
     requires { All (λ b. b ≢ 0) new.now }
     ensures program { (text : List ℕ) (old list : List ℕ) (heard : Heard)
-        → hears text (link_of old new.now list (linking.UnlockInode number)) heard ≡ link_of old new.now list result }
-    ensures fits { (old list : List ℕ) → length list + length (elements new.now) ≤ MOST_LISTED
-        → LinkFits old new.now list (link_stage result) }
+        → hears text (link_of version old new.now list (linking.UnlockInode number)) heard ≡ link_of version old new.now list result }
+    ensures fits { (old list : List ℕ) → length list + length (elements version new.now) ≤ MOST_LISTED
+        → LinkFits version old new.now list (link_stage result) }
 {
-    match next_element(Version::One, new, 0) {
+    match next_element(version, new, 0) {
         None => Link::TakeRaised(number, NO_ENTRY),
         Some(_) => Link::WalksNew(Walk::Start, number),
     }
@@ -88,8 +91,8 @@ fn gave(number: u32, new: &[u8]) -> Link
 
 // The directory is given up, and the count goes down again.
 fn fail(directory: u32, number: u32, answer: Answer) -> Link
-    ensures program { (old new list : List ℕ)
-        → link_of old new list result ≡ give_up directory (lower old new number (reply_to (calls.Link old new) answer) list) }
+    ensures program { (v : Version) (old new list : List ℕ)
+        → link_of v old new list result ≡ give_up directory (lower old new number (reply_to (calls.Link old new) answer) list) }
     ensures past { link_stage result ≡ Past }
 {
     Link::GiveFailed(Dropping::UnlockInode(directory), number, answer)
@@ -97,9 +100,9 @@ fn fail(directory: u32, number: u32, answer: Answer) -> Link
 
 // What the directory has under the name.
 fn looked(directory: u32, element: Element, number: u32, heard: &Heard) -> Link
-    ensures program { (text old new list : List ℕ)
-        → hears text (link_of old new list (linking.Look directory element number)) heard.now ≡ link_of old new list result }
-    ensures fits { (old new list : List ℕ) → IsElement new element → LinkFits old new list (link_stage result) }
+    ensures program { (v : Version) (text old new list : List ℕ)
+        → hears text (link_of v old new list (linking.Look directory element number)) heard.now ≡ link_of v old new list result }
+    ensures fits { (v : Version) (old new list : List ℕ) → IsElement v new element → LinkFits v old new list (link_stage result) }
 {
     let sight = heard.sight();
     if !is_live(&sight) {
@@ -113,8 +116,8 @@ fn looked(directory: u32, element: Element, number: u32, heard: &Heard) -> Link
 
 // The name was to be entered.
 fn entered(directory: u32, number: u32, heard: &Heard) -> Link
-    ensures program { (old new list : List ℕ)
-        → link_of old new list result ≡ named_on old new number directory list (entered_in heard.now) }
+    ensures program { (v : Version) (old new list : List ℕ)
+        → link_of v old new list result ≡ named_on old new number directory list (entered_in heard.now) }
     ensures past { link_stage result ≡ Past }
 {
     match heard.entered() {
@@ -128,9 +131,10 @@ impl Link {
     /// The next operation. The new path is after the old one.
     #[inline(always)]
     pub fn ask(&self, old: &[u8], new: &[u8]) -> Ask
-        ensures asks { (list : List ℕ) → LinkFits old.now new.now list (link_stage self.now)
-            → asks (link_of old.now new.now list self.now) ≡ Some (op_in (old.now ++ new.now) result) }
-        ensures named { (list : List ℕ) → LinkFits old.now new.now list (link_stage self.now) → IsNamedInTwo old.now new.now result }
+        ensures asks { (v : Version) (list : List ℕ) → LinkFits v old.now new.now list (link_stage self.now)
+            → asks (link_of v old.now new.now list self.now) ≡ Some (op_in (old.now ++ new.now) result) }
+        ensures named { (v : Version) (list : List ℕ) → LinkFits v old.now new.now list (link_stage self.now)
+            → IsNamedInTwo v old.now new.now result }
     {
         match self {
             Link::Join => Ask::Join,
@@ -158,6 +162,7 @@ impl Link {
     /// Goes on in its place with what it hears: true if it has ended, with its answer left in `says`.
     pub fn step(
         &mut self,
+        version: Version,
         heard: &Heard,
         old: &[u8],
         new: &[u8],
@@ -166,23 +171,29 @@ impl Link {
     ) -> bool
         requires old_nonzero { All (λ b. b ≢ 0) old.now }
         requires new_nonzero { All (λ b. b ≢ 0) new.now }
-        requires fits { LinkFits old.now new.now list.old (link_stage self.old) }
+        requires fits { LinkFits version old.now new.now list.old (link_stage self.old) }
         ensures goes { (text : List ℕ)
-            → hears text (link_of old.now new.now list.old self.old) heard.now
-            ≡ stepped (link_of old.now new.now list.new self.new) (calls.Link old.now new.now) says.new result }
-        ensures fits { result ≡ false → LinkFits old.now new.now list.new (link_stage self.new) }
+            → hears text (link_of version old.now new.now list.old self.old) heard.now
+            ≡ stepped (link_of version old.now new.now list.new self.new) (calls.Link old.now new.now) says.new result }
+        ensures fits { result ≡ false → LinkFits version old.now new.now list.new (link_stage self.new) }
     {
         match self {
             Link::Join => *self = Link::WalksOld(Walk::Start),
-            Link::WalksOld(walk) => match walk.step(Goal::Inside, heard, old, list) {
+            Link::WalksOld(walk) => match walk.step(version, Goal::Inside, heard, old, list) {
                 Walked::Walks => {}
                 Walked::Reached(number, _) => *self = Link::Take(number),
                 Walked::Lost(why) => *self = Link::Ends(Ending::Leaves(stopped(why))),
             },
             Link::Take(number) => *self = took(*number, &heard.sight()),
             Link::Raise(number, _) => *self = Link::UnlockInode(*number),
-            Link::UnlockInode(number) => *self = gave(*number, new),
-            Link::WalksNew(walk, number) => match walk.step(Goal::Parent, heard, new, list) {
+            Link::UnlockInode(number) => *self = gave(version, *number, new),
+            Link::WalksNew(walk, number) => match walk.step(
+                version,
+                Goal::Parent,
+                heard,
+                new,
+                list,
+            ) {
                 Walked::Walks => {}
                 Walked::Reached(directory, Some(element)) => {
                     *self = Link::Look(directory, element, *number);
@@ -213,10 +224,10 @@ impl Link {
         false
     }
 
-    pub fn mark(&self, heard: &Heard, new: &[u8]) -> Option<Mark>
+    pub fn mark(&self, version: Version, heard: &Heard, new: &[u8]) -> Option<Mark>
         requires { All (λ b. b ≢ 0) new.now }
         ensures { (old list : List ℕ)
-            → mark_at (link_of old new.now list self.now) heard.now ≡ marked_as (link_action old new.now self.now) result }
+            → mark_at (link_of version old new.now list self.now) heard.now ≡ marked_as (link_action old new.now self.now) result }
     {
         match self {
             Link::WalksOld(walk) => walk.mark(heard),
@@ -230,7 +241,7 @@ impl Link {
             }
             Link::Raise(_, _) => Some(Mark::Bump),
             Link::UnlockInode(_) => {
-                if next_element(Version::One, new, 0).is_none() {
+                if next_element(version, new, 0).is_none() {
                     Some(Mark::Begin)
                 } else {
                     None

@@ -1,5 +1,6 @@
 //! mkdir: the new directory with its two entries first, then its name and its parent's count.
 ghost use Rattle.std.specs.Prelude.{◌≡◌, ◌≢◌, ◌≤◌, ℕ, All, [], List, Option, Some, length, false};
+ghost use Rattle.image_versions.specs.declared.version.Version.{Version};
 ghost use Rattle.whole_calls.specs.Vocabulary.{elements, asks, claimed_of, entered_of, face_of, hears, mark_at, marked_as, op_in, reply_to, sight_of, stepped, IsNamed, name_in, IsElement, face_or, mkdir_refused, mkdir_with, name_directory, give_up, tail, Heard};
 ghost use Rattle.plain_tree.specs.declared.call.Call.TheVariants as calls;
 ghost use Rattle.plain_tree.specs.declared.step.Action.TheVariants as steps;
@@ -37,18 +38,20 @@ pub enum Mkdir {
 }
 
 fn refuse(number: u32, answer: Answer) -> Mkdir
-    ensures program { (path list : List ℕ) → mkdir_of path list result ≡ give_up number (tail list (reply_to (calls.Mkdir path) answer)) }
+    ensures program { (v : Version) (path list : List ℕ)
+        → mkdir_of v path list result ≡ give_up number (tail list (reply_to (calls.Mkdir path) answer)) }
     ensures past { mkdir_stage result ≡ Past }
 {
     Mkdir::Ends(Ending::Gives(Dropping::UnlockInode(number), answer))
 }
 
-fn begin(path: &[u8]) -> Mkdir
+fn begin(version: Version, path: &[u8]) -> Mkdir
     requires { All (λ b. b ≢ 0) path.now }
-    ensures program { (text : List ℕ) (heard : Heard) → hears text (mkdir_of path.now [] making.Join) heard ≡ mkdir_of path.now [] result }
-    ensures fits { length (elements path.now) ≤ MOST_LISTED → Fits path.now [] (mkdir_stage result) }
+    ensures program { (text : List ℕ) (heard : Heard)
+        → hears text (mkdir_of version path.now [] making.Join) heard ≡ mkdir_of version path.now [] result }
+    ensures fits { length (elements version path.now) ≤ MOST_LISTED → Fits version path.now [] (mkdir_stage result) }
 {
-    match next_element(Version::One, path, 0) {
+    match next_element(version, path, 0) {
         None => Mkdir::Ends(Ending::Leaves(Answer::Failed(Cause::NoEntry))),
         Some(_) => Mkdir::Walks(Walk::Start),
     }
@@ -72,9 +75,9 @@ fn refusal(sight: &Sight) -> Option<Cause>
 
 // What the directory has under the name.
 fn looked(directory: u32, element: Element, heard: &Heard) -> Mkdir
-    ensures program { (text path list : List ℕ)
-        → hears text (mkdir_of path list (making.Look directory element)) heard.now ≡ mkdir_of path list result }
-    ensures fits { (path list : List ℕ) → IsElement path element → Fits path list (mkdir_stage result) }
+    ensures program { (v : Version) (text path list : List ℕ)
+        → hears text (mkdir_of v path list (making.Look directory element)) heard.now ≡ mkdir_of v path list result }
+    ensures fits { (v : Version) (path list : List ℕ) → IsElement v path element → Fits v path list (mkdir_stage result) }
 {
     let sight = heard.sight();
     if !is_live(&sight) {
@@ -87,9 +90,9 @@ fn looked(directory: u32, element: Element, heard: &Heard) -> Mkdir
 }
 
 fn claimed(directory: u32, element: Element, face: Face, claimed: Claimed) -> Mkdir
-    ensures program { (path list : List ℕ)
-        → mkdir_of path list result ≡ mkdir_with path directory (name_in path element) list (face_of face) (claimed_of claimed) }
-    ensures fits { (path list : List ℕ) → IsElement path element → Fits path list (mkdir_stage result) }
+    ensures program { (v : Version) (path list : List ℕ)
+        → mkdir_of v path list result ≡ mkdir_with path directory (name_in path element) list (face_of face) (claimed_of claimed) }
+    ensures fits { (v : Version) (path list : List ℕ) → IsElement v path element → Fits v path list (mkdir_stage result) }
 {
     match claimed {
         Claimed::NoInode => refuse(directory, Answer::Full(Full::DiskInodes)),
@@ -107,8 +110,8 @@ fn claimed(directory: u32, element: Element, face: Face, claimed: Claimed) -> Mk
 }
 
 fn entered(name: NewName, face: Face, entered: Entered) -> Mkdir
-    ensures program { (path list : List ℕ)
-        → mkdir_of path list result ≡ name_directory path name.directory (face_of face) name.number list (entered_of entered) }
+    ensures program { (v : Version) (path list : List ℕ)
+        → mkdir_of v path list result ≡ name_directory path name.directory (face_of face) name.number list (entered_of entered) }
     ensures past { mkdir_stage result ≡ Past }
 {
     match entered {
@@ -121,8 +124,8 @@ fn entered(name: NewName, face: Face, entered: Entered) -> Mkdir
 impl Mkdir {
     #[inline(always)]
     pub fn ask(&self, path: &[u8]) -> Ask
-        ensures asks { (list : List ℕ) → asks (mkdir_of path.now list self.now) ≡ Some (op_in path.now result) }
-        ensures named { (list : List ℕ) → Fits path.now list (mkdir_stage self.now) → IsNamed path.now result }
+        ensures asks { (v : Version) (list : List ℕ) → asks (mkdir_of v path.now list self.now) ≡ Some (op_in path.now result) }
+        ensures named { (v : Version) (list : List ℕ) → Fits v path.now list (mkdir_stage self.now) → IsNamed v path.now result }
     {
         match self {
             Mkdir::Join => Ask::Join,
@@ -143,21 +146,22 @@ impl Mkdir {
     /// Goes on in its place with what it hears: true if it has ended, with its answer left in `says`.
     pub fn step(
         &mut self,
+        version: Version,
         heard: &Heard,
         path: &[u8],
         list: &mut Numbers,
         says: &mut Answer,
     ) -> bool
         requires nonzero { All (λ b. b ≢ 0) path.now }
-        requires fits { Fits path.now list.old (mkdir_stage self.old) }
+        requires fits { Fits version path.now list.old (mkdir_stage self.old) }
         ensures goes { (text : List ℕ)
-            → hears text (mkdir_of path.now list.old self.old) heard.now
-            ≡ stepped (mkdir_of path.now list.new self.new) (calls.Mkdir path.now) says.new result }
-        ensures fits { result ≡ false → Fits path.now list.new (mkdir_stage self.new) }
+            → hears text (mkdir_of version path.now list.old self.old) heard.now
+            ≡ stepped (mkdir_of version path.now list.new self.new) (calls.Mkdir path.now) says.new result }
+        ensures fits { result ≡ false → Fits version path.now list.new (mkdir_stage self.new) }
     {
         match self {
-            Mkdir::Join => *self = begin(path),
-            Mkdir::Walks(walk) => match walk.step(Goal::Parent, heard, path, list) {
+            Mkdir::Join => *self = begin(version, path),
+            Mkdir::Walks(walk) => match walk.step(version, Goal::Parent, heard, path, list) {
                 Walked::Walks => {}
                 Walked::Reached(directory, Some(element)) => {
                     *self = Mkdir::Look(directory, element);
@@ -197,13 +201,13 @@ impl Mkdir {
         false
     }
 
-    pub fn mark(&self, heard: &Heard, path: &[u8]) -> Option<Mark>
+    pub fn mark(&self, version: Version, heard: &Heard, path: &[u8]) -> Option<Mark>
         requires { All (λ b. b ≢ 0) path.now }
-        ensures { (list : List ℕ) → mark_at (mkdir_of path.now list self.now) heard.now ≡ marked_as (steps.Mkdir path.now) result }
+        ensures { (list : List ℕ) → mark_at (mkdir_of version path.now list self.now) heard.now ≡ marked_as (steps.Mkdir path.now) result }
     {
         match self {
             Mkdir::Join => {
-                if next_element(Version::One, path, 0).is_none() {
+                if next_element(version, path, 0).is_none() {
                     Some(Mark::Begin)
                 } else {
                     None

@@ -1,5 +1,6 @@
 //! open: what is there is opened, or a new file made.
 ghost use Rattle.std.specs.Prelude.{◌≡◌, ◌≢◌, ◌≤◌, ℕ, All, [], List, Option, Some, length, ◌==◌, false};
+ghost use Rattle.image_versions.specs.declared.version.Version.{Version};
 ghost use Rattle.whole_calls.specs.Vocabulary.{has, elements, asks, claimed_of, entered_of, hears, mark_at, marked_as, op_in, reply_to, sight_of, type_of, stepped, IsNamed, name_in, IsElement, face_or, open_refusal, empties, make_on, make_with, open_face, give_up, tail, Heard};
 ghost use Rattle.plain_tree.specs.declared.call.Call.TheVariants as calls;
 ghost use Rattle.plain_tree.specs.declared.step.Action.TheVariants as steps;
@@ -132,8 +133,8 @@ fn refusal(flags: u32, inode_type: InodeType) -> Option<Cause>
 // Gives an inode up, and answers this.
 #[inline(always)]
 fn refuse(number: u32, answer: Answer, at: &mut Open)
-    ensures program { (path : List ℕ) (flags : ℕ) (list : List ℕ)
-        → open_of path flags list at.new ≡ give_up number (tail list (reply_to (calls.Open path flags) answer)) }
+    ensures program { (v : Version) (path : List ℕ) (flags : ℕ) (list : List ℕ)
+        → open_of v path flags list at.new ≡ give_up number (tail list (reply_to (calls.Open path flags) answer)) }
     ensures past { open_stage at.new ≡ Past }
 {
     *at = Open::Ends(Ending::Gives(Dropping::UnlockInode(number), answer));
@@ -141,13 +142,13 @@ fn refuse(number: u32, answer: Answer, at: &mut Open)
 
 // A transaction is joined.
 #[inline(always)]
-fn begin(path: &[u8], flags: u32, at: &mut Open)
+fn begin(version: Version, path: &[u8], flags: u32, at: &mut Open)
     requires { All (λ b. b ≢ 0) path.now }
     ensures program { (text : List ℕ) (heard : Heard)
-        → hears text (open_of path.now flags [] opening.Join) heard ≡ open_of path.now flags [] at.new }
-    ensures fits { length (elements path.now) ≤ MOST_LISTED → Fits path.now [] (open_stage at.new) }
+        → hears text (open_of version path.now flags [] opening.Join) heard ≡ open_of version path.now flags [] at.new }
+    ensures fits { length (elements version path.now) ≤ MOST_LISTED → Fits version path.now [] (open_stage at.new) }
 {
-    if has_flag(flags, CREATE) && next_element(Version::One, path, 0).is_none() {
+    if has_flag(flags, CREATE) && next_element(version, path, 0).is_none() {
         *at = Open::Ends(Ending::Leaves(Answer::Failed(Cause::NoEntry)));
     } else {
         *at = Open::Walks(Walk::Start);
@@ -157,7 +158,7 @@ fn begin(path: &[u8], flags: u32, at: &mut Open)
 // What is there was taken.
 #[inline(always)]
 fn took(number: u32, flags: u32, sight: &Sight, at: &mut Open)
-    ensures program { (path list : List ℕ) → open_of path flags list at.new ≡
+    ensures program { (v : Version) (path list : List ℕ) → open_of v path flags list at.new ≡
         open_face path flags number list (face_or (sight_of sight.now).face).inode_type
         (open_refusal (flags == 0) (face_or (sight_of sight.now).face).inode_type) }
     ensures past { open_stage at.new ≡ Past }
@@ -172,8 +173,8 @@ fn took(number: u32, flags: u32, sight: &Sight, at: &mut Open)
 // A place for an open file was wanted.
 #[inline(always)]
 fn placed(found: Found, heard: &Heard, at: &mut Open)
-    ensures program { (text path : List ℕ) (flags : ℕ) (list : List ℕ)
-        → hears text (open_of path flags list (opening.Slot found)) heard.now ≡ open_of path flags list at.new }
+    ensures program { (v : Version) (text path : List ℕ) (flags : ℕ) (list : List ℕ)
+        → hears text (open_of v path flags list (opening.Slot found)) heard.now ≡ open_of v path flags list at.new }
     ensures past { open_stage at.new ≡ Past }
 {
     if heard.is() {
@@ -186,7 +187,7 @@ fn placed(found: Found, heard: &Heard, at: &mut Open)
 // A descriptor was wanted.
 #[inline(always)]
 fn installed(found: Found, flags: u32, fd: Option<u32>, at: &mut Open)
-    ensures program { (path list : List ℕ) → open_of path flags list at.new ≡ installed path flags list found fd }
+    ensures program { (v : Version) (path list : List ℕ) → open_of v path flags list at.new ≡ installed path flags list found fd }
     ensures past { open_stage at.new ≡ Past }
 {
     match fd {
@@ -204,9 +205,9 @@ fn installed(found: Found, flags: u32, fd: Option<u32>, at: &mut Open)
 // What the directory has under the name.
 #[inline(always)]
 fn looked(directory: u32, element: Element, heard: &Heard, at: &mut Open)
-    ensures program { (text path : List ℕ) (flags : ℕ) (list : List ℕ)
-        → hears text (open_of path flags list (opening.Look directory element)) heard.now ≡ open_of path flags list at.new }
-    ensures fits { (path list : List ℕ) → IsElement path element → Fits path list (open_stage at.new) }
+    ensures program { (v : Version) (text path : List ℕ) (flags : ℕ) (list : List ℕ)
+        → hears text (open_of v path flags list (opening.Look directory element)) heard.now ≡ open_of v path flags list at.new }
+    ensures fits { (v : Version) (path list : List ℕ) → IsElement v path element → Fits v path list (open_stage at.new) }
 {
     let sight = heard.sight();
     if !is_live(&sight) {
@@ -221,8 +222,8 @@ fn looked(directory: u32, element: Element, heard: &Heard, at: &mut Open)
 // A reference to what has the name was wanted.
 #[inline(always)]
 fn referred(directory: u32, number: u32, heard: &Heard, at: &mut Open)
-    ensures program { (text path : List ℕ) (flags : ℕ) (list : List ℕ)
-        → hears text (open_of path flags list (opening.Up directory number)) heard.now ≡ open_of path flags list at.new }
+    ensures program { (v : Version) (text path : List ℕ) (flags : ℕ) (list : List ℕ)
+        → hears text (open_of v path flags list (opening.Up directory number)) heard.now ≡ open_of v path flags list at.new }
     ensures past { open_stage at.new ≡ Past }
 {
     if heard.is() {
@@ -235,9 +236,9 @@ fn referred(directory: u32, number: u32, heard: &Heard, at: &mut Open)
 // A new inode was wanted.
 #[inline(always)]
 fn claimed(directory: u32, element: Element, claimed: Claimed, at: &mut Open)
-    ensures program { (path : List ℕ) (flags : ℕ) (list : List ℕ)
-        → open_of path flags list at.new ≡ make_with path flags directory (name_in path element) list (claimed_of claimed) }
-    ensures fits { (path list : List ℕ) → IsElement path element → Fits path list (open_stage at.new) }
+    ensures program { (v : Version) (path : List ℕ) (flags : ℕ) (list : List ℕ)
+        → open_of v path flags list at.new ≡ make_with path flags directory (name_in path element) list (claimed_of claimed) }
+    ensures fits { (v : Version) (path list : List ℕ) → IsElement v path element → Fits v path list (open_stage at.new) }
 {
     match claimed {
         Claimed::NoInode => refuse(directory, Answer::Full(Full::DiskInodes), at),
@@ -256,8 +257,8 @@ fn claimed(directory: u32, element: Element, claimed: Claimed, at: &mut Open)
 // The name was to be entered.
 #[inline(always)]
 fn entered(name: NewName, inode_type: InodeType, entered: Entered, at: &mut Open)
-    ensures program { (path : List ℕ) (flags : ℕ) (list : List ℕ)
-        → open_of path flags list at.new ≡ make_on path flags name.number (type_of inode_type) name.directory list (entered_of entered) }
+    ensures program { (v : Version) (path : List ℕ) (flags : ℕ) (list : List ℕ)
+        → open_of v path flags list at.new ≡ make_on path flags name.number (type_of inode_type) name.directory list (entered_of entered) }
     ensures past { open_stage at.new ≡ Past }
 {
     match entered {
@@ -277,8 +278,8 @@ fn entered(name: NewName, inode_type: InodeType, entered: Entered, at: &mut Open
 impl Open {
     #[inline(always)]
     pub fn ask(&self, path: &[u8], flags: u32) -> Ask
-        ensures asks { (list : List ℕ) → asks (open_of path.now flags list self.now) ≡ Some (op_in path.now result) }
-        ensures named { (list : List ℕ) → Fits path.now list (open_stage self.now) → IsNamed path.now result }
+        ensures asks { (v : Version) (list : List ℕ) → asks (open_of v path.now flags list self.now) ≡ Some (op_in path.now result) }
+        ensures named { (v : Version) (list : List ℕ) → Fits v path.now list (open_stage self.now) → IsNamed v path.now result }
     {
         match self {
             Open::Join => Ask::Join,
@@ -306,6 +307,7 @@ impl Open {
     #[inline(always)]
     pub fn step(
         &mut self,
+        version: Version,
         heard: &Heard,
         path: &[u8],
         flags: u32,
@@ -313,15 +315,15 @@ impl Open {
         says: &mut Answer,
     ) -> bool
         requires nonzero { All (λ b. b ≢ 0) path.now }
-        requires fits { Fits path.now list.old (open_stage self.old) }
+        requires fits { Fits version path.now list.old (open_stage self.old) }
         ensures goes { (text : List ℕ)
-            → hears text (open_of path.now flags list.old self.old) heard.now
-            ≡ stepped (open_of path.now flags list.new self.new) (calls.Open path.now flags) says.new result }
-        ensures fits { result ≡ false → Fits path.now list.new (open_stage self.new) }
+            → hears text (open_of version path.now flags list.old self.old) heard.now
+            ≡ stepped (open_of version path.now flags list.new self.new) (calls.Open path.now flags) says.new result }
+        ensures fits { result ≡ false → Fits version path.now list.new (open_stage self.new) }
     {
         match self {
-            Open::Join => begin(path, flags, self),
-            Open::Walks(walk) => match walk.step(goal(flags), heard, path, list) {
+            Open::Join => begin(version, path, flags, self),
+            Open::Walks(walk) => match walk.step(version, goal(flags), heard, path, list) {
                 Walked::Walks => {}
                 Walked::Reached(number, None) => *self = Open::Take(number),
                 Walked::Reached(number, Some(element)) => *self = Open::Look(number, element),
@@ -361,14 +363,14 @@ impl Open {
     }
 
     /// The move that is made here, if one is.
-    pub fn mark(&self, heard: &Heard, path: &[u8], flags: u32) -> Option<Mark>
+    pub fn mark(&self, version: Version, heard: &Heard, path: &[u8], flags: u32) -> Option<Mark>
         requires { All (λ b. b ≢ 0) path.now }
         ensures { (list : List ℕ)
-            → mark_at (open_of path.now flags list self.now) heard.now ≡ marked_as (steps.Open path.now flags) result }
+            → mark_at (open_of version path.now flags list self.now) heard.now ≡ marked_as (steps.Open path.now flags) result }
     {
         match self {
             Open::Join => {
-                if has_flag(flags, CREATE) && next_element(Version::One, path, 0).is_none() {
+                if has_flag(flags, CREATE) && next_element(version, path, 0).is_none() {
                     Some(Mark::Begin)
                 } else {
                     None

@@ -1,5 +1,6 @@
 //! read: the inode is locked, then a part read, and the offset moves; or the descriptor isn't for that.
 ghost use Rattle.std.specs.Prelude.{◌≡◌, ◌<◌, ◌^◌, ℕ, List, Option, Some, length, false};
+ghost use Rattle.image_versions.specs.declared.version.Version.{Version};
 ghost use Rattle.plain_tree.specs.declared.call.Call.TheVariants as calls;
 ghost use Rattle.plain_tree.specs.declared.step.Action.TheVariants as steps;
 ghost use Rattle.whole_calls.specs.Vocabulary.{asks, hears, mark_at, marked_as, op_in, stepped};
@@ -20,7 +21,7 @@ pub enum Read {
 impl Read {
     pub fn ask(&self, fd: u32, buffer: &[u8]) -> Ask
         ensures asks { (text : List ℕ) → asks (read_of fd buffer.now self.now) ≡ Some (op_in text result) }
-        ensures named { ReadAsks buffer.now self.now result }
+        ensures named { (v : Version) → ReadAsks v buffer.now self.now result }
     {
         match self {
             Read::Lock => Ask::LockFile(fd),

@@ -1,5 +1,6 @@
 //! unlink: a name removed.
 ghost use Rattle.std.specs.Prelude.{◌≡◌, ◌≢◌, ◌≤◌, ℕ, All, [], List, Option, Some, length, false};
+ghost use Rattle.image_versions.specs.declared.version.Version.{Version};
 ghost use Rattle.plain_tree.specs.declared.call.Call.TheVariants as calls;
 ghost use Rattle.plain_tree.specs.declared.step.Action.TheVariants as steps;
 ghost use Rattle.whole_calls.specs.Vocabulary.{asks, face_of, hears, mark_at, marked_as, op_in, stepped, reply_to, sight_of, IsNamed, is_directory_type, face_or, unlink_found, IsElement, give_up, tail, name_in, elements};
@@ -46,8 +47,8 @@ pub enum Unlink {
 // Gives the directory up, and answers this.
 #[inline(always)]
 fn refuse(directory: u32, answer: Answer, at: &mut Unlink)
-    ensures program { (path list : List ℕ)
-        → unlink_of path list at.new ≡ give_up directory (tail list (reply_to (calls.Unlink path) answer)) }
+    ensures program { (v : Version) (path list : List ℕ)
+        → unlink_of v path list at.new ≡ give_up directory (tail list (reply_to (calls.Unlink path) answer)) }
     ensures past { unlink_stage at.new ≡ Past }
 {
     *at = Unlink::Ends(Ending::Gives(Dropping::UnlockInode(directory), answer));
@@ -76,10 +77,10 @@ fn is_dots(name: &[u8]) -> bool
 // The parent is reached, with the name that is to go.
 #[inline(always)]
 fn reached(directory: u32, element: Element, path: &[u8], at: &mut Unlink)
-    requires { IsElement path.now element }
-    ensures program { (list : List ℕ)
-        → unlink_of path.now list at.new ≡ unlink_in path.now directory (Some (name_in path.now element)) list }
-    ensures fits { (list : List ℕ) → Fits path.now list (unlink_stage at.new) }
+    requires { (v : Version) × IsElement v path.now element }
+    ensures program { (v : Version) (list : List ℕ)
+        → unlink_of v path.now list at.new ≡ unlink_in path.now directory (Some (name_in path.now element)) list }
+    ensures fits { (v : Version) (list : List ℕ) → IsElement v path.now element → Fits v path.now list (unlink_stage at.new) }
 {
     if is_dots(&path[element.start..element.end]) {
         *at = Unlink::Dots(directory);
@@ -91,8 +92,8 @@ fn reached(directory: u32, element: Element, path: &[u8], at: &mut Unlink)
 // "." or ".." stays, if its directory has links.
 #[inline(always)]
 fn stays(directory: u32, heard: &Heard, at: &mut Unlink)
-    ensures program { (text path list : List ℕ)
-        → hears text (unlink_of path list (unlinking.Dots directory)) heard.now ≡ unlink_of path list at.new }
+    ensures program { (v : Version) (text path list : List ℕ)
+        → hears text (unlink_of v path list (unlinking.Dots directory)) heard.now ≡ unlink_of v path list at.new }
     ensures past { unlink_stage at.new ≡ Past }
 {
     if is_live(&heard.sight()) {
@@ -105,8 +106,8 @@ fn stays(directory: u32, heard: &Heard, at: &mut Unlink)
 // A reference to what has the name was wanted.
 #[inline(always)]
 fn referred(name: Name, number: u32, heard: &Heard, at: &mut Unlink)
-    ensures program { (text path list : List ℕ)
-        → hears text (unlink_of path list (unlinking.Up name number)) heard.now ≡ unlink_of path list at.new }
+    ensures program { (v : Version) (text path list : List ℕ)
+        → hears text (unlink_of v path list (unlinking.Up name number)) heard.now ≡ unlink_of v path list at.new }
     ensures past { unlink_stage at.new ≡ Past }
 {
     if heard.is() {
@@ -119,8 +120,8 @@ fn referred(name: Name, number: u32, heard: &Heard, at: &mut Unlink)
 // What has the name was taken. A directory with entries stays.
 #[inline(always)]
 fn took(name: Name, number: u32, heard: &Heard, at: &mut Unlink)
-    ensures program { (text path list : List ℕ)
-        → hears text (unlink_of path list (unlinking.Take name number)) heard.now ≡ unlink_of path list at.new }
+    ensures program { (v : Version) (text path list : List ℕ)
+        → hears text (unlink_of v path list (unlinking.Take name number)) heard.now ≡ unlink_of v path list at.new }
     ensures past { unlink_stage at.new ≡ Past }
 {
     if heard.sight().empty {
@@ -135,8 +136,8 @@ fn took(name: Name, number: u32, heard: &Heard, at: &mut Unlink)
 // Once the name is gone.
 #[inline(always)]
 fn cleared(name: Name, number: u32, face: Face, at: &mut Unlink)
-    ensures program { (path list : List ℕ)
-        → unlink_of path list at.new ≡ cleared path name.directory list (face_of name.face) number (face_of face) }
+    ensures program { (v : Version) (path list : List ℕ)
+        → unlink_of v path list at.new ≡ cleared path name.directory list (face_of name.face) number (face_of face) }
     ensures past { unlink_stage at.new ≡ Past }
 {
     if is_directory(&face) {
@@ -149,8 +150,8 @@ fn cleared(name: Name, number: u32, face: Face, at: &mut Unlink)
 impl Unlink {
     #[inline(always)]
     pub fn ask(&self, path: &[u8]) -> Ask
-        ensures asks { (list : List ℕ) → asks (unlink_of path.now list self.now) ≡ Some (op_in path.now result) }
-        ensures named { (list : List ℕ) → Fits path.now list (unlink_stage self.now) → IsNamed path.now result }
+        ensures asks { (v : Version) (list : List ℕ) → asks (unlink_of v path.now list self.now) ≡ Some (op_in path.now result) }
+        ensures named { (v : Version) (list : List ℕ) → Fits v path.now list (unlink_stage self.now) → IsNamed v path.now result }
     {
         match self {
             Unlink::Join => Ask::Join,
@@ -176,21 +177,22 @@ impl Unlink {
     #[inline(always)]
     pub fn step(
         &mut self,
+        version: Version,
         heard: &Heard,
         path: &[u8],
         list: &mut Numbers,
         says: &mut Answer,
     ) -> bool
         requires nonzero { All (λ b. b ≢ 0) path.now }
-        requires fits { Fits path.now list.old (unlink_stage self.old) }
+        requires fits { Fits version path.now list.old (unlink_stage self.old) }
         ensures goes { (text : List ℕ)
-            → hears text (unlink_of path.now list.old self.old) heard.now
-            ≡ stepped (unlink_of path.now list.new self.new) (calls.Unlink path.now) says.new result }
-        ensures fits { result ≡ false → Fits path.now list.new (unlink_stage self.new) }
+            → hears text (unlink_of version path.now list.old self.old) heard.now
+            ≡ stepped (unlink_of version path.now list.new self.new) (calls.Unlink path.now) says.new result }
+        ensures fits { result ≡ false → Fits version path.now list.new (unlink_stage self.new) }
     {
         match self {
-            Unlink::Join => begin(path, self),
-            Unlink::Walks(walk) => match walk.step(Goal::Parent, heard, path, list) {
+            Unlink::Join => begin(version, path, self),
+            Unlink::Walks(walk) => match walk.step(version, Goal::Parent, heard, path, list) {
                 Walked::Walks => {}
                 Walked::Reached(directory, Some(element)) => {
                     reached(directory, element, path, self);
@@ -224,13 +226,14 @@ impl Unlink {
     }
 
     /// The move that is made here, if one is.
-    pub fn mark(&self, heard: &Heard, path: &[u8]) -> Option<Mark>
+    pub fn mark(&self, version: Version, heard: &Heard, path: &[u8]) -> Option<Mark>
         requires { All (λ b. b ≢ 0) path.now }
-        ensures { (list : List ℕ) → mark_at (unlink_of path.now list self.now) heard.now ≡ marked_as (steps.Unlink path.now) result }
+        ensures { (list : List ℕ)
+            → mark_at (unlink_of version path.now list self.now) heard.now ≡ marked_as (steps.Unlink path.now) result }
     {
         match self {
             Unlink::Join => {
-                if next_element(Version::One, path, 0).is_none() {
+                if next_element(version, path, 0).is_none() {
                     Some(Mark::Begin)
                 } else {
                     None
@@ -271,13 +274,13 @@ impl Unlink {
 }
 
 // A transaction is joined.
-fn begin(path: &[u8], at: &mut Unlink)
+fn begin(version: Version, path: &[u8], at: &mut Unlink)
     requires { All (λ b. b ≢ 0) path.now }
     ensures program { (text : List ℕ) (heard : Heard)
-        → hears text (unlink_of path.now [] unlinking.Join) heard ≡ unlink_of path.now [] at.new }
-    ensures fits { length (elements path.now) ≤ MOST_LISTED → Fits path.now [] (unlink_stage at.new) }
+        → hears text (unlink_of version path.now [] unlinking.Join) heard ≡ unlink_of version path.now [] at.new }
+    ensures fits { length (elements version path.now) ≤ MOST_LISTED → Fits version path.now [] (unlink_stage at.new) }
 {
-    match next_element(Version::One, path, 0) {
+    match next_element(version, path, 0) {
         None => *at = Unlink::Ends(Ending::Leaves(Answer::Failed(Cause::NoEntry))),
         Some(_) => *at = Unlink::Walks(Walk::Start),
     }
@@ -286,8 +289,8 @@ fn begin(path: &[u8], at: &mut Unlink)
 // What the directory has under the name.
 #[inline(always)]
 fn found(directory: u32, element: Element, sight: &Sight, at: &mut Unlink)
-    ensures program { (path list : List ℕ)
-        → unlink_of path list at.new
+    ensures program { (v : Version) (path list : List ℕ)
+        → unlink_of v path list at.new
         ≡ unlink_found path directory (name_in path element) list (face_or (sight_of sight.now).face) sight.now.found }
     ensures past { unlink_stage at.new ≡ Past }
 {

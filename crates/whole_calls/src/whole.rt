@@ -1,5 +1,6 @@
 //! A call under way over whole inodes, whichever it is.
 ghost use Rattle.std.specs.Prelude.{◌≡◌, ℕ, [], List, Option, Some, false};
+ghost use Rattle.image_versions.specs.declared.version.Version.{Version};
 ghost use Rattle.whole_calls.specs.Vocabulary.{Call, asks, hears, mark_at, marked_as, op_in, reply_to, program};
 ghost use Rattle.whole_calls.specs.Wholes.{HasRoomFor, IsCall, WholeAsks, WholeFits, action_in, call_in, first_in, second_in, text_in, went_to, whole_of};
 
@@ -12,6 +13,7 @@ use crate::opens::Open;
 use crate::reading::Read;
 use crate::unlink::Unlink;
 use crate::writing::Write;
+use image_versions::Version;
 use path_walk::{Ask, Heard, Mark, Numbers};
 use plain_tree::{Answer, Bytes, Call, Reply};
 
@@ -34,10 +36,9 @@ pub enum Whole {
 impl Whole {
     #[inline(always)]
     pub fn new(call: Call) -> Whole
-        requires { IsCall call }
-        ensures program { whole_of [] result ≡ program call }
+        ensures program { (v : Version) → whole_of v [] result ≡ program v call }
         ensures call { call_in result ≡ call }
-        ensures fits { WholeFits [] result }
+        ensures fits { (v : Version) → IsCall v call → WholeFits v [] result }
     {
         match call {
             Call::Open { path, flags } => {
@@ -91,8 +92,9 @@ impl Whole {
     /// The next operation. Its names are in the call's path, its pieces in its bytes.
     #[inline(always)]
     pub fn ask(&self) -> Ask
-        ensures asks { (list : List ℕ) → WholeFits list self.now → asks (whole_of list self.now) ≡ Some (op_in (text_in self.now) result) }
-        ensures named { (list : List ℕ) → WholeFits list self.now → WholeAsks self.now result }
+        ensures asks { (v : Version) (list : List ℕ) → WholeFits v list self.now
+            → asks (whole_of v list self.now) ≡ Some (op_in (text_in self.now) result) }
+        ensures named { (v : Version) (list : List ℕ) → WholeFits v list self.now → WholeAsks v self.now result }
     {
         match self {
             Whole::Open { path, flags, at } => return at.ask(path.as_slice(), *flags),
@@ -111,27 +113,42 @@ impl Whole {
 
     /// Goes on with what it hears: true if it has ended, with its answer left in `says`.
     #[inline(always)]
-    pub fn next(&mut self, heard: &Heard, list: &mut Numbers, says: &mut Answer) -> bool
-        requires fits { WholeFits list.old self.old }
+    pub fn next(
+        &mut self,
+        version: Version,
+        heard: &Heard,
+        list: &mut Numbers,
+        says: &mut Answer,
+    ) -> bool
+        requires fits { WholeFits version list.old self.old }
         requires count { HasRoomFor heard.now self.old }
-        ensures goes { hears (text_in self.old) (whole_of list.old self.old) heard.now ≡ went_to list.new self.new says.new result }
+        ensures goes { hears (text_in self.old) (whole_of version list.old self.old) heard.now
+            ≡ went_to version list.new self.new says.new result }
         ensures call { call_in self.new ≡ call_in self.old }
-        ensures fits { result ≡ false → WholeFits list.new self.new }
+        ensures fits { result ≡ false → WholeFits version list.new self.new }
     {
         match self {
-            Whole::Open { path, flags, at } => at.step(heard, path.as_slice(), *flags, list, says),
+            Whole::Open { path, flags, at } => at.step(
+                version,
+                heard,
+                path.as_slice(),
+                *flags,
+                list,
+                says,
+            ),
             Whole::Read { fd: _, buf, at } => at.step(heard, buf.as_slice(), says),
             Whole::Write { fd: _, bytes, at } => at.step(heard, bytes.as_slice(), says),
             Whole::Link { old, new, at } => at.step(
+                version,
                 heard,
                 old.as_slice(),
                 new.as_slice(),
                 list,
                 says,
             ),
-            Whole::Unlink { path, at } => at.step(heard, path.as_slice(), list, says),
-            Whole::Mkdir { path, at } => at.step(heard, path.as_slice(), list, says),
-            Whole::Chdir { path, at } => at.step(heard, path.as_slice(), list, says),
+            Whole::Unlink { path, at } => at.step(version, heard, path.as_slice(), list, says),
+            Whole::Mkdir { path, at } => at.step(version, heard, path.as_slice(), list, says),
+            Whole::Chdir { path, at } => at.step(version, heard, path.as_slice(), list, says),
             Whole::Dup { fd: _, at } => at.step(heard, says),
             Whole::Fstat { fd: _, at } => at.step(heard, says),
             Whole::Close { fd: _, at } => at.step(heard, says),
@@ -140,17 +157,17 @@ impl Whole {
     }
 
     /// The move of the tree that is made as its operation acts with this answer, if one is.
-    pub fn mark(&self, heard: &Heard) -> Option<Mark>
-        requires { (list : List ℕ) × WholeFits list self.now }
-        ensures { (list : List ℕ) → mark_at (whole_of list self.now) heard.now ≡ marked_as (action_in self.now) result }
+    pub fn mark(&self, version: Version, heard: &Heard) -> Option<Mark>
+        requires { (list : List ℕ) × WholeFits version list self.now }
+        ensures { (list : List ℕ) → mark_at (whole_of version list self.now) heard.now ≡ marked_as (action_in self.now) result }
     {
         match self {
-            Whole::Open { path, flags, at } => at.mark(heard, path.as_slice(), *flags),
+            Whole::Open { path, flags, at } => at.mark(version, heard, path.as_slice(), *flags),
             Whole::Read { fd, buf, at } => at.mark(heard),
             Whole::Write { fd, bytes, at } => at.mark(heard, bytes.as_slice()),
-            Whole::Link { old, new, at } => at.mark(heard, new.as_slice()),
-            Whole::Unlink { path, at } => at.mark(heard, path.as_slice()),
-            Whole::Mkdir { path, at } => at.mark(heard, path.as_slice()),
+            Whole::Link { old, new, at } => at.mark(version, heard, new.as_slice()),
+            Whole::Unlink { path, at } => at.mark(version, heard, path.as_slice()),
+            Whole::Mkdir { path, at } => at.mark(version, heard, path.as_slice()),
             Whole::Chdir { path, at } => at.mark(heard),
             Whole::Dup { fd, at } => at.mark(heard),
             Whole::Fstat { fd, at } => at.mark(),

@@ -1,5 +1,6 @@
 //! write: each piece in a transaction of its own; the first that is refused, or finds no block, ends the call.
 ghost use Rattle.std.specs.Prelude.{◌≡◌, ◌+◌, ◌<◌, ◌^◌, ℕ, [], List, Option, Some, length, false};
+ghost use Rattle.image_versions.specs.declared.version.Version.{Version};
 ghost use Rattle.whole_calls.specs.Vocabulary.{piece_count, asks, checked_in, hears, mark_at, marked_as, op_in, reply_to, stepped, wrote_of, checked_reply, write_program, wrote_on};
 ghost use Rattle.plain_tree.specs.declared.call.Call.TheVariants as calls;
 ghost use Rattle.plain_tree.specs.declared.step.Action.TheVariants as steps;
@@ -91,7 +92,7 @@ impl Write {
 
     pub fn ask(&self, fd: u32, bytes: &[u8]) -> Ask
         ensures asks { asks (write_of fd bytes.now self.now) ≡ Some (op_in bytes.now result) }
-        ensures named { WriteFits bytes.now self.now → WriteAsks bytes.now result }
+        ensures named { (v : Version) → WriteFits bytes.now self.now → WriteAsks v bytes.now result }
     {
         match self {
             Write::Check => Ask::CheckFile(fd),

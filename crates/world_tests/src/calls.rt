@@ -11,6 +11,7 @@ use crate::rows::{CREATE, Line, WRITE};
 use crate::stops::calls_of_mount;
 use crate::worked::{DIRECTORY_IS_MADE, NEW_FILE_IS_WRITTEN};
 use block_device::{BLOCK_LEN, Device, Fault, MemoryDisk};
+use image_versions::Version;
 use plain_tree::{Cause, NodeType};
 
 // The most calls that are recorded.
@@ -92,7 +93,7 @@ const TOLD: &[(&[Line], &[i16])] = &[
 /// After those of the mount a row makes these calls of the device, in this order.
 #[test]
 fn the_calls_of_the_device_are_these(rt: HostRuntime) {
-    let image = Image::Made(2000, 200);
+    let image = Image::Made(Version::One, 2000, 200);
     let first = calls_of_mount(&rt, rt.alloc(), disk_of(&rt, rt.alloc(), image));
     for (row, calls) in TOLD {
         let disk = disk_of(&rt, rt.alloc(), image);

@@ -1,10 +1,11 @@
 //! A stop after each event of a row: the disk has the tree that a beginning of its history leads to.
 use crate::histories::is_named_after;
-use crate::images::{SMALL, disk_of};
+use crate::images::{Image, SMALL, SMALL_OF_VERSION_2, disk_of};
 use crate::lists::{Group, first, groups_in, holds, mounted_again, play, run_over};
 use crate::rows::Line;
 use crate::worked::{
-    DIRECTORY_IS_MADE, EMPTIED, LINKED_AND_UNLINKED, RAISED_AND_LOWERED, TWO_PIECES, WALK_IS_LOST,
+    DIRECTORY_IS_MADE, DIRECTORY_OF_VERSION_2_IS_MADE, EMPTIED, LINKED_AND_UNLINKED,
+    RAISED_AND_LOWERED, TWO_PIECES, WALK_IS_LOST,
 };
 use explain::explain;
 use hart_core::Event;
@@ -12,19 +13,25 @@ use plain_tree::{Action, Placed};
 use std::alloc::Global;
 use std::process::Abort;
 
-// Rows, and how many commits each makes.
-const STOPPED: &[(&[Line<'static>], usize)] = &[
-    (DIRECTORY_IS_MADE, 1),
-    (TWO_PIECES, 3),
-    (EMPTIED, 3),
-    (WALK_IS_LOST, 4),
-    (LINKED_AND_UNLINKED, 3),
-    (RAISED_AND_LOWERED, 3),
+// Rows over images of both versions, and how many commits each makes.
+const STOPPED: &[(Image, &[Line<'static>], usize)] = &[
+    (SMALL, DIRECTORY_IS_MADE, 1),
+    (SMALL, TWO_PIECES, 3),
+    (SMALL, EMPTIED, 3),
+    (SMALL, WALK_IS_LOST, 4),
+    (SMALL, LINKED_AND_UNLINKED, 3),
+    (SMALL, RAISED_AND_LOWERED, 3),
+    (SMALL_OF_VERSION_2, DIRECTORY_OF_VERSION_2_IS_MADE, 1),
+    (SMALL_OF_VERSION_2, TWO_PIECES, 3),
+    (SMALL_OF_VERSION_2, EMPTIED, 3),
+    (SMALL_OF_VERSION_2, WALK_IS_LOST, 4),
+    (SMALL_OF_VERSION_2, LINKED_AND_UNLINKED, 3),
+    (SMALL_OF_VERSION_2, RAISED_AND_LOWERED, 3),
 ];
 
 // The list that is handed out for these events.
-fn list_of(rt: &impl Abort, alloc: Global, events: &[Event]) -> Vec<Placed> {
-    let image = disk_of(rt, alloc, SMALL).into_bytes();
+fn list_of(rt: &impl Abort, alloc: Global, image: Image, events: &[Event]) -> Vec<Placed> {
+    let image = disk_of(rt, alloc, image).into_bytes();
     explain(alloc, image.as_slice(), events).expect(rt, "error")
 }
 
@@ -103,39 +110,40 @@ fn cut_of(groups: &[Group], count: usize) -> Option<u64> {
 fn stops_behind(
     rt: &impl Abort,
     alloc: Global,
+    image: Image,
     events: &[Event],
     wanted: Option<u64>,
     list: &[Placed],
 ) -> bool {
-    let ended = run_over(rt, alloc, disk_of(rt, alloc, SMALL), events);
+    let ended = run_over(rt, alloc, disk_of(rt, alloc, image), events);
     let is_cut = (ended.cut, ended.doubt) == (wanted, None);
     let mut disk = mounted_again(rt, alloc, ended.device);
-    let mut old = disk_of(rt, alloc, SMALL);
+    let mut old = disk_of(rt, alloc, image);
     is_cut && is_named_after(rt, alloc, &mut old, list, &mut disk)
 }
 
 // Stops a row after each of its events.
-fn stops(rt: &impl Abort, alloc: Global, row: &[Line], commits: usize) {
-    let (made, _disk) = play(rt, alloc, disk_of(rt, alloc, SMALL), row);
+fn stops(rt: &impl Abort, alloc: Global, image: Image, row: &[Line], commits: usize) {
+    let (made, _disk) = play(rt, alloc, disk_of(rt, alloc, image), row);
     let groups = groups_in(rt, alloc, made.outcomes.as_slice());
     assert!(rt; groups.len() == commits);
-    let whole = list_of(rt, alloc, made.events.as_slice());
+    let whole = list_of(rt, alloc, image, made.events.as_slice());
     for count in 0..=made.events.len() {
         let cut = cut_of(&groups, count);
         let events = first(made.events.as_slice(), count);
-        let list = list_of(rt, alloc, events);
+        let list = list_of(rt, alloc, image, events);
         let is_so = is_beginning(&list, &whole, count)
-            && stops_behind(rt, alloc, events, cut, up_to(&list, cut));
+            && stops_behind(rt, alloc, image, events, cut, up_to(&list, cut));
         holds(rt, is_so, "behind events:", count);
     }
 }
 
-/// Stopped after any event of a row, the disk has the tree of the history that is handed out, up to the run's cut.
+/// Stopped after any event of a row, on an image of either version, the disk has the tree of the history that is handed out, up to the run's cut.
 /// The cut is the leave whose group has the last head that was written. The history of a beginning of the events is a
 /// beginning of the history of all.
 #[test]
 fn stop_everywhere(rt: HostRuntime) {
-    for (row, commits) in STOPPED {
-        stops(&rt, rt.alloc(), *row, *commits);
+    for (image, row, commits) in STOPPED {
+        stops(&rt, rt.alloc(), *image, *row, *commits);
     }
 }

@@ -1,9 +1,9 @@
 //! Images that the tests begin with.
 use crate::memory::copied;
 use block_device::MemoryDisk;
-use image_tree::{examine, tree_of};
+use image_tree::{examine, find_version, tree_of};
 use image_versions::Version;
-use mkfs::{NewFile, make};
+use mkfs::{NewFile, make, make_as};
 use plain_tree::Tree;
 use std::alloc::Global;
 use std::ops::Range;
@@ -19,15 +19,18 @@ pub enum Image {
     Crowded,
     /// A root without names, and a log of 30 blocks.
     ShortLog,
-    /// A new one of this number of blocks and inodes, without names.
-    Made(u32, u32),
+    /// A new one of this version, of this number of blocks and inodes, without names.
+    Made(Version, u32, u32),
     /// A new one of this number of blocks and 16 inodes, whose file `/f` (inode 2) has these bytes. The blocks before
     /// the data are 36.
     WithFile(u32, &'static [u8]),
 }
 
 /// A new small one: 23 blocks are free.
-pub const SMALL: Image = Image::Made(60, 16);
+pub const SMALL: Image = Image::Made(Version::One, 60, 16);
+
+/// The same of version 2.
+pub const SMALL_OF_VERSION_2: Image = Image::Made(Version::Two, 60, 16);
 
 // Bytes at a place of an image.
 type Part = (usize, &'static [u8]);
@@ -156,7 +159,9 @@ pub fn disk_of(rt: &impl Abort, alloc: Global, image: Image) -> MemoryDisk {
         Image::Tree => MemoryDisk::new(image_of(rt, alloc, 64, &TREE)),
         Image::Crowded => MemoryDisk::new(crowded(rt, alloc)),
         Image::ShortLog => MemoryDisk::new(image_of(rt, alloc, 64, &SHORT_LOG)),
-        Image::Made(size, ninodes) => make(alloc, size, ninodes, &[]).expect(rt, "error"),
+        Image::Made(version, size, ninodes) => {
+            make_as(alloc, version, size, ninodes, &[]).expect(rt, "error")
+        }
         Image::WithFile(size, bytes) => with_file(rt, alloc, size, bytes),
     }
 }
@@ -175,14 +180,21 @@ pub fn name(number: u32) -> [u8; 4] {
     ]
 }
 
+/// The version of an image.
+pub fn version_in(rt: &impl Abort, disk: &mut MemoryDisk) -> Version {
+    find_version(disk).expect(rt, "error")
+}
+
 /// The tree of an image that is in order.
 pub fn tree_in(rt: &impl Abort, alloc: Global, disk: &mut MemoryDisk) -> Tree {
-    tree_of(alloc, disk, Version::One).expect(rt, "error")
+    let version = version_in(rt, disk);
+    tree_of(alloc, disk, version).expect(rt, "error")
 }
 
 /// How many nodes with a name, nodes without one and blocks of contents are on a disk, whose image is well formed.
 pub fn counts(rt: &impl Abort, alloc: Global, disk: MemoryDisk) -> (u32, u32, u32) {
     let mut disk = disk;
-    let shape = examine(alloc, &mut disk, Version::One).expect(rt, "error");
+    let version = version_in(rt, &mut disk);
+    let shape = examine(alloc, &mut disk, version).expect(rt, "error");
     (shape.live, shape.orphans, shape.blocks)
 }

@@ -9,6 +9,7 @@ use crate::rows::Says::{Done, Failed, Idle, Refused};
 use crate::rows::{Ask, LONG, READ, READ_AND_WRITE, TRUNCATE, call, owned};
 use fs_machine::Kind;
 use hart_core::{Came, Event, Outcome, Run, StartRefused};
+use image_versions::Version;
 use plain_tree::{
     Action, Answer, Call, Cause, Placed, Reply, StepAnswer, Trace, TracedCall, TreeStep,
 };
@@ -79,9 +80,9 @@ fn events_come_in_order(rt: HostRuntime) {
         placed(4, 1, 7, Action::Dup { fd: 16 }, failed(bad)),
         placed(6, 0, 0, Action::Fstat { fd: 3 }, failed(bad)),
     ];
-    assert!(rt; explains(&rt, alloc, &base, &trace, &list));
+    assert!(rt; explains(&rt, alloc, Version::One, &base, &trace, &list));
     list[0].event = 5;
-    assert!(rt; !explains(&rt, alloc, &base, &trace, &list));
+    assert!(rt; !explains(&rt, alloc, Version::One, &base, &trace, &list));
 }
 
 /// A run goes on from the end of another, in the middle of a call.
@@ -142,7 +143,7 @@ fn many_calls_are_explained(rt: HostRuntime) {
     let mut calls = trace.calls.as_slice().iter();
     assert!(rt; calls.len() == MANY);
     assert!(rt; calls.all(|call| end_of(call) == call.start.checked_add(1)));
-    let found = find_history(alloc, &base, &trace, &[]).expect(&rt, "error");
+    let found = find_history(alloc, Version::One, &base, &trace, &[]).expect(&rt, "error");
     let list = found.expect(&rt, "nothing explains it");
     assert!(rt; list.len() == MANY);
 }
@@ -178,10 +179,10 @@ fn a_lost_walk_is_explained(rt: HostRuntime) {
         placed(last_of(&trace, 2), 2, 1, directory, StepAnswer::Done),
         placed(last_of(&trace, 0), 0, 0, open, failed(Cause::NoEntry)),
     ];
-    assert!(rt; explains(&rt, alloc, &base, &trace, &list));
+    assert!(rt; explains(&rt, alloc, Version::One, &base, &trace, &list));
     list[2].event = 20;
     list.rotate_right(1);
-    assert!(rt; !explains(&rt, alloc, &base, &trace, &list));
+    assert!(rt; !explains(&rt, alloc, Version::One, &base, &trace, &list));
 }
 
 // What is called at random.

@@ -139,7 +139,7 @@ fn of_check(rt: HostRuntime) {
         Err(_) => (true, NO_MEMORY),
     };
     let _ = println!(rt; "answer {answer}");
-    assert!(rt; explained && explains(&rt, alloc, &base, &trace, list.as_slice()));
+    assert!(rt; explained && explains(&rt, alloc, Version::One, &base, &trace, list.as_slice()));
 }
 
 /// No start and no step asks for memory.

@@ -207,7 +207,7 @@ fn commits(
 fn a_commit_goes_by_the_log(rt: HostRuntime) {
     let alloc = rt.alloc();
     let new = [Do(0, Open(b"/f", CREATE), Fd(0))];
-    let disk = disk_of(&rt, alloc, Image::Made(60, 200));
+    let disk = disk_of(&rt, alloc, Image::Made(Version::One, 60, 200));
     let (_made, disk) = play(&rt, alloc, disk, &new);
     let image = disk.into_bytes();
     let write = [

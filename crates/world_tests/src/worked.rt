@@ -1,5 +1,5 @@
 //! Worked rows, over which each call of the device fails in turn.
-use crate::images::{Image, SMALL, counts, disk_of};
+use crate::images::{Image, SMALL, SMALL_OF_VERSION_2, counts, disk_of};
 use crate::lists::{Made, holds, play};
 use crate::rows::Ask::{
     Chdir, Close, Dup, Fill, Fstat, Inherit, Link, Mkdir, Open, Read, Unlink, Write,
@@ -24,6 +24,16 @@ pub const DIRECTORY_IS_MADE: &[Line] = &[
     Do(0, Mkdir(b"/a"), Done),
     Do(0, Open(b"/a", READ), Fd(0)),
     Do(0, Fstat(0), State(2, NodeType::Directory, 1, 32)),
+    Do(0, Open(b"/", READ), Fd(1)),
+    Do(0, Fstat(1), State(1, NodeType::Directory, 2, 1024)),
+];
+
+/// The same on an image of version 2, in which names that begin with the same fourteen bytes are two.
+pub const DIRECTORY_OF_VERSION_2_IS_MADE: &[Line] = &[
+    Do(0, Mkdir(b"/abcdefghijklmno"), Done),
+    Do(0, Open(b"/abcdefghijklmnp", READ), Failed(Cause::NoEntry)),
+    Do(0, Open(b"/abcdefghijklmno", READ), Fd(0)),
+    Do(0, Fstat(0), State(2, NodeType::Directory, 1, 64)),
     Do(0, Open(b"/", READ), Fd(1)),
     Do(0, Fstat(1), State(1, NodeType::Directory, 2, 1024)),
 ];
@@ -103,6 +113,11 @@ const ROWS: &[Row] = &[
     ),
     (SMALL, DIRECTORY_IS_MADE, (2, 0, 2)),
     (
+        SMALL_OF_VERSION_2,
+        DIRECTORY_OF_VERSION_2_IS_MADE,
+        (2, 0, 2),
+    ),
+    (
         SMALL,
         &[
             Do(0, Open(b"", READ), Fd(0)),
@@ -126,6 +141,7 @@ const ROWS: &[Row] = &[
     (SMALL, TWO_PIECES, (2, 0, 5)),
     (SMALL, EMPTIED, (2, 0, 1)),
     (SMALL, WALK_IS_LOST, (1, 0, 1)),
+    (SMALL_OF_VERSION_2, WALK_IS_LOST, (1, 0, 1)),
     // The same, if others of these names are there by then.
     (
         SMALL,
@@ -161,7 +177,9 @@ const ROWS: &[Row] = &[
         (1, 1, 2),
     ),
     (SMALL, LINKED_AND_UNLINKED, (2, 0, 2)),
+    (SMALL_OF_VERSION_2, LINKED_AND_UNLINKED, (2, 0, 2)),
     (SMALL, RAISED_AND_LOWERED, (3, 0, 1)),
+    (SMALL_OF_VERSION_2, RAISED_AND_LOWERED, (3, 0, 1)),
     // A child reads on from the offset that its parent has read to.
     (
         SMALL,
@@ -225,6 +243,7 @@ const ROWS: &[Row] = &[
         (2, 0, 24),
     ),
     (SMALL, NEW_FILE_IS_WRITTEN, (2, 0, 2)),
+    (SMALL_OF_VERSION_2, NEW_FILE_IS_WRITTEN, (2, 0, 2)),
     // A file without a name is there as long as it is open.
     (
         SMALL,

@@ -5,6 +5,6 @@ abbrev pub invariant-loop-place : goal.invariant-loop-place
 invariant-loop-place l = record {
   had : l.had ≡ length l.fn.index.slots;
   blocks : l.index.blocks ≡ l.fn.index.blocks;
-  slots : l.index.slots ≡ l.fn.index.slots ++ used_in l.k l.place l.block;
+  slots : l.index.slots ≡ l.fn.index.slots ++ used_in l.version l.k l.place l.block;
   few : length l.index.slots ≤ 64;
 }

@@ -9,4 +9,4 @@ returns-clause-program c aim =
     let h = c.args.hand.now in
     let k = c.args.seat in
     let program = c.new-fetch.ensures.program h ∙ ap (λ (d : Dinode). let p : P FetchedBlock = fetch_block d c.args.block in p) c.record_at.ensures in
-    search_some aim (record_in k h) c.args.block (index_at k h) c.args.left _ c.if-left-eq0.false program
+    search_some c.args.version aim (record_in k h) c.args.block (index_at k h) c.args.left _ c.if-left-eq0.false program

@@ -2,4 +2,4 @@ use Rattle.directory.proofs.Lemmas.{◌≡◌, ℕ, ◌<◌, false, dirent_at, i
 use Rattle.directory.proofs.slots.first_named.Given as goal
 
 abbrev pub invariant-loop-place : goal.invariant-loop-place
-invariant-loop-place l = (k : ℕ) → k < l.place → is_named l.name (dirent_at k l.block) ≡ false
+invariant-loop-place l = (k : ℕ) → k < l.place → is_named l.name (dirent_at l.version k l.block) ≡ false

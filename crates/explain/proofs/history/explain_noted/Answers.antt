@@ -6,7 +6,7 @@ returns-in-Ok-None-clause-found c =
     inr (
       c.is_full.ensures.room c.if-is_full.false,
       knows c.args.keeper _ FullSeen c.in-Ok.ensures,
-      inr (nowhere c.args.base.now c.in-Ok-trace.trace _ c.in-Ok-trace.ensures
+      inr (nowhere c.args.version c.args.base.now c.in-Ok-trace.trace _ c.in-Ok-trace.ensures
           (sym (c.any_climbs.ensures ∙ ap any_climbs c.as_slice-2.ensures) ∙ c.if-any_climbs.false)
-          (subst (λ (found : Option (Vec Placed Global)). IsFound c.args.base.now c.in-Ok-trace.trace (Ok found)) c.in-Ok-None.field-0-is c.in-Ok-None.ensures.found)),
+          (subst (λ (found : Option (Vec Placed Global)). IsFound c.args.version c.args.base.now c.in-Ok-trace.trace (Ok found)) c.in-Ok-None.field-0-is c.in-Ok-None.ensures.found)),
     )

@@ -15,13 +15,14 @@ returns-in-Ok-run_noted c =
         history = c.in-Ok-run_noted.ensures.history;
       };
       outcomes = refl;
-      base = c.in_ok-base.ensures;
+      version = c.in_ok-version.ensures.0;
+      base = c.in_ok-version.ensures.1;
       keeps = λ k is.
           let before : Option KeptTree = c.run_noted.new.observer.keeper in
           let told = was_told before k (some_lacks_place run.world.harts) (sym (c.ends.ensures ∙ ap (λ (b : Bool). option_map (ended b) before) c.lacks_place.ensures) ∙ is) in
           record {
             kept = told.kept;
-            keeps = keeps_from blocks_of never world.sizes world.harts _ c.args.events.now run.outcomes.items run.world.harts _ told.kept refl refl few c.in-Ok-run_noted.ensures.notes told.was _ _ c.in_ok-base.ensures c.in-Ok.ensures;
+            keeps = keeps_from blocks_of never world.sizes world.harts _ c.args.events.now run.outcomes.items run.world.harts _ told.kept refl refl few c.in-Ok-run_noted.ensures.notes told.was _ _ c.in_ok-version.ensures.0 _ _ c.in_ok-version.ensures.1 c.in-Ok.ensures;
             is = told.is;
           };
     }

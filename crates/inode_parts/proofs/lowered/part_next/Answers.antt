@@ -29,9 +29,9 @@ returns-in-Read-clause-goes c before =
     (subst (λ (t : List ℕ). Goes (read_file_left t read before) answer (left_after (read_file_left new) (handed new m) o q h)) value (c.next.ensures.goes m before ready after))))
 
 pub returns-in-Read-clause-under : goal.returns-in-Read-clause-under
-returns-in-Read-clause-under c op start before =
+returns-in-Read-clause-under c v op start before =
     let path = text_in c.args.call.now in
     let m = c.args.notes.now in
     let h = c.args.hand.now in
     rw c.in-ReadFile.is (λ under ready after.
-    reads path start before h m m (heard_if c.next.result c.next.new.heard) c.in-ReadFile.read c.next.new.self (λ fd n offset count amid. c.next.ensures.leaves path m fd n offset count start.hand before amid ready after) op under)
+    reads v path start before h m m (heard_if c.next.result c.next.new.heard) c.in-ReadFile.read c.next.new.self (λ fd n offset count amid. c.next.ensures.leaves v path m fd n offset count start.hand before amid ready after) op under)

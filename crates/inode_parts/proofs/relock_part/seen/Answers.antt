@@ -9,6 +9,6 @@ returns-clause-program c path =
     sym (seen_ends path c.args.notes.now c.set.new.self c.args.seat c.args.hand.now note.Nothing c.record_at-inode.result.now None true (saw c.face_unless_free.result) c.record_at-inode.ensures c.requires (ap saw c.face_unless_free.ensures.is) c.set.ensures)
 
 pub returns-clause-sees : goal.returns-clause-sees
-returns-clause-sees c path =
+returns-clause-sees c version path =
     let face = c.face_unless_free.result in
-    sees_nothing path c.args.seat (heard.Saw (record { face = face; found = None; empty = true })) c.args.notes.now c.set.new.self (counted_face face c.face_unless_free.ensures.few) note.Nothing c.set.ensures
+    sees_nothing version path c.args.seat (heard.Saw (record { face = face; found = None; empty = true })) c.args.notes.now c.set.new.self (counted_face face c.face_unless_free.ensures.few) note.Nothing c.set.ensures

@@ -2,4 +2,4 @@ use Rattle.inodes_on_blocks.proofs.Lemmas.{Shut, close, alone, close_acts, alone
 use Rattle.inodes_on_blocks.proofs.acting.closes_act_once.Goals as goal
 
 pub returns : goal.returns
-returns c = λ fd. does_it (Shut fd) (close fd) (λ h lt m. close_acts alone alone_laws alone_keeps h lt fd m)
+returns c = λ fd. does_it (Shut fd) (close fd) (λ sizes h lt m. close_acts sizes alone (alone_laws sizes.version) alone_keeps h lt fd m)

@@ -2,4 +2,4 @@ use Rattle.inodes_on_blocks.proofs.Lemmas.{Forget, forget, alone, forget_acts, a
 use Rattle.inodes_on_blocks.proofs.acting.forgets_act_once.Goals as goal
 
 pub returns : goal.returns
-returns c = λ n. does_it (Forget n) (forget n) (λ h lt m. forget_acts alone alone_laws alone_keeps h lt n m)
+returns c = λ n. does_it (Forget n) (forget n) (λ sizes h lt m. forget_acts sizes alone (alone_laws sizes.version) alone_keeps h lt n m)

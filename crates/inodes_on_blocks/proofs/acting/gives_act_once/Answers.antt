@@ -2,4 +2,4 @@ use Rattle.inodes_on_blocks.proofs.Lemmas.{UnlockInode, give, alone, give_acts, 
 use Rattle.inodes_on_blocks.proofs.acting.gives_act_once.Goals as goal
 
 pub returns : goal.returns
-returns c = λ n. does_it (UnlockInode n) (give n) (λ h lt m. give_acts alone alone_laws alone_keeps h lt n m)
+returns c = λ n. does_it (UnlockInode n) (give n) (λ sizes h lt m. give_acts sizes alone (alone_laws sizes.version) alone_keeps h lt n m)

@@ -2,4 +2,4 @@ use Rattle.inodes_on_blocks.proofs.Lemmas.{Lend, lend, alone, lend_acts, alone_l
 use Rattle.inodes_on_blocks.proofs.acting.lends_act_once.Goals as goal
 
 pub returns : goal.returns
-returns c = λ child from. does_it (Lend child from) (lend child from) (λ h lt m. lend_acts alone alone_laws alone_keeps h lt child from m)
+returns c = λ child from. does_it (Lend child from) (lend child from) (λ sizes h lt m. lend_acts sizes alone (alone_laws sizes.version) alone_keeps h lt child from m)

@@ -2,4 +2,4 @@ use Rattle.inodes_on_blocks.proofs.Lemmas.{LockFile, lock_file, alone, file_acts
 use Rattle.inodes_on_blocks.proofs.files.locks_to_read_act_once.Goals as goal
 
 pub returns : goal.returns
-returns c = λ sizes fd. does_it_at sizes (LockFile fd) (lock_file sizes fd) (λ h lt m. file_acts alone alone_laws alone_keeps h lt sizes fd m)
+returns c = λ sizes fd. does_it_at sizes (LockFile fd) (lock_file sizes fd) (λ h lt m. file_acts sizes alone (alone_laws sizes.version) alone_keeps h lt fd m)

@@ -4,5 +4,5 @@ use Rattle.inodes_on_blocks.proofs.storing.frees_act_once.Goals as goal
 pub returns : goal.returns
 returns c = λ sizes n h s m c' w lt few todo stands spent.
     let t = spent_after (Free n) s in
-    free_acts sizes alone alone_laws alone_keeps h lt n m (HasSpent sizes h t) (spent_gives sizes h sizes.bmapstart t (bitmap_spent sizes n s) few) (spent_gives sizes h (inode_block sizes.inodestart n) t (record_spent sizes n (with_bitmap s)) few) c' (IsDone (Free n)) (Answers (Free n)) [] w
-    (lasts_done (Free n) h) todo stands (stands.1, both_more h n s w.real spent)
+    free_acts sizes alone (alone_laws sizes.version) alone_keeps h lt n m (HasSpent sizes h t) (spent_gives sizes h sizes.bmapstart t (bitmap_spent sizes n s) few) (spent_gives sizes h (inode_block sizes.inodestart n) t (record_spent sizes n (with_bitmap s)) few) c' (IsDone (Free n)) (Answers (Free n)) [] w
+    (lasts_done sizes.version (Free n) h) todo stands (stands.1, both_more h n s w.real spent)

@@ -2,7 +2,7 @@ use Rattle.hart_core.proofs.Lemmas.{◌≡◌, Some, None, sym, subst, get_or, s
 use Rattle.hart_core.proofs.harts.Harts.begin.Goals as goal
 
 pub begin-requires-clause-call : goal.begin-requires-clause-call
-begin-requires-clause-call g c = right_call c.args.call c.requires.faultless
+begin-requires-clause-call g c = right_call c.args.sizes.now.version c.args.call c.requires.faultless
 
 pub invariant_of-self : goal.invariant_of-self
 invariant_of-self g c =

@@ -20,7 +20,7 @@ returns-in-Some-clause-goes c path before ready after =
     (subst (λ (k : InodePlace). entered path m k h (entered_as r h) ≡ last) did.ends.1 (c.hear.ensures.is path)) (did.goes before ready after)
 
 pub returns-in-None-clause-leaves : goal.returns-in-None-clause-leaves
-returns-in-None-clause-leaves c path a start before amid ready after =
+returns-in-None-clause-leaves c version path a start before amid ready after =
     let k = enter_seat c.args.self.now.enter in
     let h = c.next.new.hand in
     let did = c.in-None.ensures in
@@ -28,7 +28,7 @@ returns-in-None-clause-leaves c path a start before amid ready after =
     (subst (λ (k : InodePlace). IsAmid a.0 start k h) (sym did.about) still, refl)
 
 pub returns-in-Some-clause-leaves : goal.returns-in-Some-clause-leaves
-returns-in-Some-clause-leaves c path a start before amid ready after =
+returns-in-Some-clause-leaves c version path a start before amid ready after =
     let k = enter_seat c.args.self.now.enter in
     let h = c.next.new.hand in
     let did = c.in-Some.ensures in

@@ -27,13 +27,13 @@ returns-in-Some-clause-goes c path before ready after =
     (filled_so path m c.change.new.notes p.seat h c.change.new.hand f (loaded_still p.seat before h same ready.1) set c.change.ensures.notes) (did.goes before ready.0 after)
 
 pub returns-in-None-clause-leaves : goal.returns-in-None-clause-leaves
-returns-in-None-clause-leaves c path a start before amid ready after =
+returns-in-None-clause-leaves c version path a start before amid ready after =
     let k = c.args.self.now.seat in
     let h = c.next.new.hand in
     (still_amid a.0 start k before h (buffers_beside k before h (c.in-None.ensures.beside before ready.0 after)) amid, refl)
 
 pub returns-in-Some-clause-leaves : goal.returns-in-Some-clause-leaves
-returns-in-Some-clause-leaves c path a start before amid ready after =
+returns-in-Some-clause-leaves c version path a start before amid ready after =
     let k = c.args.self.now.seat in
     let h = c.next.new.hand in
     let d = c.in-Some.filled.inode in

@@ -9,7 +9,7 @@ returns-in-None-clause-goes c path before ready after =
     empty_on path c.args.notes.now p before c.next.new.hand (answer_in (empty_part_asked p) c.args.answer.now c.args.hand.now) (did.beside before ready after) (record { truncate = c.next.new.self }) did.about (did.goes before ready after)
 
 pub returns-in-None-clause-leaves : goal.returns-in-None-clause-leaves
-returns-in-None-clause-leaves c path n start before amid ready after =
+returns-in-None-clause-leaves c version path n start before amid ready after =
     let p = c.args.self.now in
     let h = c.next.new.hand in
     let did = c.in-None.ensures in
@@ -17,7 +17,7 @@ returns-in-None-clause-leaves c path n start before amid ready after =
     (subst (λ (e : Emptying). IsAmid n start e.seat h) (sym did.about) still, refl)
 
 pub returns-in-Some-clause-leaves : goal.returns-in-Some-clause-leaves
-returns-in-Some-clause-leaves c path n start before amid ready after =
+returns-in-Some-clause-leaves c version path n start before amid ready after =
     let p = c.args.self.now in
     let h = c.next.new.hand in
     let e = c.in-Some.emptying in

@@ -23,14 +23,14 @@ returns-in-Some-clause-goes c path before ready after =
     free_over path c.args.notes.now p.seat p.free before c.next.new.hand (answer_in (freeing_asked p.free) c.args.answer.now c.args.hand.now) ready.1 (did.beside before ready.0 after) c.set.new.self c.set.ensures ready.2 ready.3 did.ends.0 (did.goes before ready.0 after)
 
 pub returns-in-None-clause-leaves : goal.returns-in-None-clause-leaves
-returns-in-None-clause-leaves c path n start before amid ready after =
+returns-in-None-clause-leaves c version path n start before amid ready after =
     let p = c.args.self.now in
     let h = c.next.new.hand in
     let same = subst (λ (k : InodePlace). beside_inode k h ≡ beside_inode k before) ready.1 (c.in-None.ensures.beside before ready.0 after) in
     (still_amid n start p.seat before h same amid, refl)
 
 pub returns-in-Some-clause-leaves : goal.returns-in-Some-clause-leaves
-returns-in-Some-clause-leaves c path n start before amid ready after =
+returns-in-Some-clause-leaves c version path n start before amid ready after =
     let p = c.args.self.now in
     let h = c.next.new.hand in
     let did = c.in-Some.ensures in

@@ -11,14 +11,14 @@ returns-in-None-clause-ready c =
     (did.ready, did.about ∙ came.1.1, did.place ∙ came.1.2, second ∙ came.1.3)
 
 pub returns-in-None-clause-leaves : goal.returns-in-None-clause-leaves
-returns-in-None-clause-leaves c path a start before amid ready after =
+returns-in-None-clause-leaves c version path a start before amid ready after =
     let p = c.args.self.now in
     let h = c.args.hand.now in
     let same = c.in-None.ensures.beside before after in
     (still_amid a.0 start p.seat before h (buffer_beside (record_place p.store) p.seat before h same) amid, refl)
 
 pub returns-in-Some-clause-leaves : goal.returns-in-Some-clause-leaves
-returns-in-Some-clause-leaves c path a start before amid ready after =
+returns-in-Some-clause-leaves c version path a start before amid ready after =
     let p = c.args.self.now in
     let h = c.args.hand.now in
     let did = c.in-Some.ensures in

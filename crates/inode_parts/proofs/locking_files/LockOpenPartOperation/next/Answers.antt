@@ -29,12 +29,12 @@ returns-in-Some-clause-goes c path before ready after =
     (did.goes before ready.0 after)
 
 pub returns-in-None-clause-leaves : goal.returns-in-None-clause-leaves
-returns-in-None-clause-leaves c path a start before amid ready after =
+returns-in-None-clause-leaves c version path a start before amid ready after =
     let did = c.in-None.ensures in
     ((amid.0, comes_on (open_seat c.args.self.now.lock) (open_seat c.next.new.self) start before c.next.new.hand did.about (did.beside before ready.0 after) amid.1), refl)
 
 pub returns-in-Some-clause-leaves : goal.returns-in-Some-clause-leaves
-returns-in-Some-clause-leaves c path a start before amid ready after =
+returns-in-Some-clause-leaves c version path a start before amid ready after =
     let p = c.args.self.now in
     let k = open_seat p.lock in
     let h = c.next.new.hand in

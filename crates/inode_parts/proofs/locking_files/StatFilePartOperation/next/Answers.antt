@@ -46,12 +46,12 @@ returns-in-Some-Locked-clause-goes c path before ready after =
     (told_at path c.args.notes.now c.set.new.self h held k ends.0 ends.1 (other_free k k before h refl same ready.1) held.file.number c.face.result refl (c.face.ensures.is ∙ ap face_by c.record_at-inode.ensures) c.set.ensures) goes
 
 pub returns-in-None-clause-leaves : goal.returns-in-None-clause-leaves
-returns-in-None-clause-leaves c path fd start before amid ready after =
+returns-in-None-clause-leaves c version path fd start before amid ready after =
     let did = c.in-None.ensures in
     (comes_on (file_seat c.args.self.now.lock) (file_seat c.next.new.self) start before c.next.new.hand did.about (did.beside before ready.0 after) amid, refl)
 
 pub returns-in-Some-Refused-clause-leaves : goal.returns-in-Some-Refused-clause-leaves
-returns-in-Some-Refused-clause-leaves c path fd start before amid ready after =
+returns-in-Some-Refused-clause-leaves c version path fd start before amid ready after =
     let p = c.args.self.now in
     let k = file_seat p.lock in
     let h = c.next.new.hand in
@@ -60,7 +60,7 @@ returns-in-Some-Refused-clause-leaves c path fd start before amid ready after =
     (never_came k start h (comes_on k k start before h refl (did.beside before ready.0 after) amid) ends.1 ends.0, tt)
 
 pub returns-in-Some-Locked-clause-leaves : goal.returns-in-Some-Locked-clause-leaves
-returns-in-Some-Locked-clause-leaves c path fd start before amid ready after =
+returns-in-Some-Locked-clause-leaves c version path fd start before amid ready after =
     let p = c.args.self.now in
     let k = file_seat p.lock in
     let h = c.next.new.hand in

@@ -18,8 +18,8 @@ returns-else-part_next-clause-goes c before ready after =
     let answer = answer_in (part_asked l.part) c.args.answer.now c.args.hand.now in
     let left = part_left (text_in l.call) l.notes l.part before in
     let went = subst (λ (o : Option Heard). Goes left answer (part_left_after (text_in u) m o q h)) (ap (λ (b : Bool). heard_if b x) c.if-part_next.false) (did.ensures.goes before ready.ready after) in
-    subst (λ (p : List ℕ → programs.P Reply). Goes (with_text l.sizes left (whole_with l.list l.call)) answer (with_text l.sizes (part_left (text_in u) m q h) p)) (same_with l.list l.call u did.ensures.call)
-    (goes_within l.sizes left (part_left (text_in u) m q h) (whole_with l.list l.call) answer went)
+    subst (λ (p : List ℕ → programs.P Reply). Goes (with_text l.sizes left (whole_with l.sizes.version l.list l.call)) answer (with_text l.sizes (part_left (text_in u) m q h) p)) (same_with l.sizes.version l.list l.call u did.ensures.call)
+    (goes_within l.sizes left (part_left (text_in u) m q h) (whole_with l.sizes.version l.list l.call) answer went)
 
 pub returns-else-part_next-clause-tells : goal.returns-else-part_next-clause-tells
 returns-else-part_next-clause-tells c before ready after =
@@ -37,8 +37,8 @@ returns-else-part_next-clause-tells c before ready after =
       sizes = refl;
       goes = record {
         goes = went;
-        call = sym (same_with l.list l.call u did.ensures.call);
-        room = λ x room. room_before l.list l.call u x did.ensures.call room;
+        call = sym (same_with l.sizes.version l.list l.call u did.ensures.call);
+        room = λ x room. room_before l.sizes.version l.list l.call u x did.ensures.call room;
       };
     }
 
@@ -55,21 +55,21 @@ returns-else-part_next-clause-ready c =
     let t = having did.new.hand did.new.notes in
     let none = ap (λ (b : Bool). heard_if b x) c.if-part_next.false in
     let filled = did.ensures.call in
-    let under = subst (λ (o : Option Heard). GoesOrLeaves (text_in l.call) way.op way.start o q t) none (did.ensures.under way.op way.start came.0 way.under ready.ready came.2) in
-    let same : IsOnWay (text_in l.call) (whole_of l.list l.call) q t = record { op = way.op; start = way.start; asked = way.asked; runs = way.runs; under = under } in
+    let under = subst (λ (o : Option Heard). GoesOrLeaves l.sizes.version (text_in l.call) way.op way.start o q t) none (did.ensures.under l.sizes.version way.op way.start came.0 way.under ready.ready came.2) in
+    let same : IsOnWay l.sizes.version (text_in l.call) (whole_of l.sizes.version l.list l.call) q t = record { op = way.op; start = way.start; asked = way.asked; runs = way.runs; under = under } in
     record {
       sized = ready.sized;
-      fits = fits_with l.list l.call u filled ready.fits;
+      fits = fits_with l.sizes.version l.list l.call u filled ready.fits;
       ready = subst (λ (o : Option Heard). IfNone o (PartReady q did.new.hand)) none did.ensures.ready;
       told = subst (λ (o : Option Heard). IfNone o (PartTold (first_in u) (second_in u) q)) none did.ensures.told;
-      reads = λ is. reads_with l.list l.call u filled (ready.reads (subst (λ (o : Option Heard). IfNone o (ReadsInto q → ReadsInto l.part)) none did.ensures.reads is));
-      way = way_with l.list l.call u q t filled same;
+      reads = λ is. reads_with l.sizes.version l.list l.call u filled (ready.reads (subst (λ (o : Option Heard). IfNone o (ReadsInto q → ReadsInto l.part)) none did.ensures.reads is));
+      way = way_with l.sizes.version l.list l.call u q t filled same;
     }
 
 -- ---- it is over
 
 pub next-requires-clause-fits : goal.next-requires-clause-fits
-next-requires-clause-fits c = let l = c.args.self.now in fits_with l.list l.call c.part_next.new.call c.part_next.ensures.call c.requires.came.1.fits
+next-requires-clause-fits c = let l = c.args.self.now in fits_with l.sizes.version l.list l.call c.part_next.new.call c.part_next.ensures.call c.requires.came.1.fits
 
 pub next-requires-clause-count : goal.next-requires-clause-count
 next-requires-clause-count c =
@@ -78,7 +78,7 @@ next-requires-clause-count c =
     let ready = c.requires.came.1 in
     let x = did.new.heard in
     let some = ap (λ (b : Bool). heard_if b x) c.if-part_next.true in
-    room_then l.list l.call did.new.call l.part (having c.requires.came.0 l.notes) x (heard_if did.result x) some did.ensures.call ready.way did.ensures.room
+    room_then l.sizes.version l.list l.call did.new.call l.part (having c.requires.came.0 l.notes) x (heard_if did.result x) some did.ensures.call ready.way did.ensures.room
 
 pub begin-requires : goal.begin-requires
 begin-requires c =
@@ -92,18 +92,19 @@ begin-requires c =
     let v = c.next.new.self in
     let ms = c.next.new.list in
     let some = ap (λ (b : Bool). heard_if b x) c.if-part_next.true in
-    let leaves : (op : above.Op) (start : Having) → UnderWay (text_in l.call) op start l.part (having came.0 l.notes) → Leaves (text_in l.call) op (answer_to [] op x) start s = λ op start under. subst (λ (o : Option Heard). GoesOrLeaves (text_in l.call) op start o did.new.part s) some (did.ensures.under op start came.0 under ready.ready came.2) in
-    let on : hears (text_in u) (whole_of l.list u) x ≡ whole_of ms v = (c.next.ensures.goes ∙ ap (λ (ended : Bool). stepped (whole_of ms v) (call_in v) c.next.new.says ended) c.if-next.false) in
-    let runs = next_runs l.call u v l.list ms l.part (having came.0 l.notes) s x did.ensures.call ready.way leaves c.next.ensures.call on in
+    let leaves : (op : above.Op) (start : Having) → UnderWay l.sizes.version (text_in l.call) op start l.part (having came.0 l.notes) → Leaves l.sizes.version (text_in l.call) op (answer_to [] op x) start s = λ op start under.
+    subst (λ (o : Option Heard). GoesOrLeaves l.sizes.version (text_in l.call) op start o did.new.part s) some (did.ensures.under l.sizes.version op start came.0 under ready.ready came.2) in
+    let on : hears (text_in u) (whole_of l.sizes.version l.list u) x ≡ whole_of l.sizes.version ms v = (c.next.ensures.goes ∙ ap (λ (ended : Bool). stepped (whole_of l.sizes.version ms v) (call_in v) c.next.new.says ended) c.if-next.false) in
+    let runs = next_runs l.sizes.version l.call u v l.list ms l.part (having came.0 l.notes) s x did.ensures.call ready.way leaves c.next.ensures.call on in
     let a = c.ask-ask.result in
     let fits = c.next.ensures.fits c.if-next.false in
-    let named = c.ask-ask.ensures.named ms fits in
-    let asked = c.ask-ask.ensures.asks ms fits in
+    let named = c.ask-ask.ensures.named l.sizes.version ms fits in
+    let asked = c.ask-ask.ensures.asks l.sizes.version ms fits in
     record {
       sized = ready.sized;
-      begins = begins_now v ms s a asked runs;
-      stands = stands_of ms v a fits named;
-      told = told_of v a named;
+      begins = begins_now l.sizes.version v ms s a asked runs;
+      stands = stands_of l.sizes.version ms v a fits named;
+      told = told_of l.sizes.version v a named;
     }
 
 pub returns-else-next-clause-goes : goal.returns-else-next-clause-goes
@@ -121,8 +122,8 @@ returns-else-next-clause-goes c before ready after =
     let answer = answer_in (part_asked l.part) c.args.answer.now c.args.hand.now in
     let left = part_left (text_in l.call) l.notes l.part before in
     let went = subst (λ (o : Option Heard). Goes left answer (part_left_after path m o did.new.part h)) (ap (λ (b : Bool). heard_if b x) c.if-part_next.true) (did.ensures.goes before ready.ready after) in
-    let own : hears path (whole_with l.list l.call path) x ≡ hears path (whole_of l.list u) x = (λ i. hears path (same_with l.list l.call u filled i path) x) ∙ (λ i. hears path (its_own l.list u i) x) in
-    let on : hears path (whole_of l.list u) x ≡ whole_of ms v = (c.next.ensures.goes ∙ ap (λ (ended : Bool). stepped (whole_of ms v) (call_in v) c.next.new.says ended) c.if-next.false) in
+    let own : hears path (whole_with l.sizes.version l.list l.call path) x ≡ hears path (whole_of l.sizes.version l.list u) x = (λ i. hears path (same_with l.sizes.version l.list l.call u filled i path) x) ∙ (λ i. hears path (its_own l.sizes.version l.list u i) x) in
+    let on : hears path (whole_of l.sizes.version l.list u) x ≡ whole_of l.sizes.version ms v = (c.next.ensures.goes ∙ ap (λ (ended : Bool). stepped (whole_of l.sizes.version ms v) (call_in v) c.next.new.says ended) c.if-next.false) in
     let a = c.ask-ask.result in
     let q = c.begin.new.self in
     let g = c.begin.new.hand in
@@ -131,10 +132,10 @@ returns-else-next-clause-goes c before ready after =
     let fits = c.next.ensures.fits c.if-next.false in
     let is = subst (λ (t : List ℕ). IsPart l.sizes (carry_in t m h) (op_in t a) (part_left t m q g)) (read ∙ stays) c.begin.ensures.part in
     let fills = subst (λ (t : List ℕ). FillsAs a t (part_left t m q g)) read c.begin.ensures.fills in
-    let asked = c.ask-ask.ensures.asks ms fits in
-    let same = on_text l.sizes ms v (part_left path m q g) (λ reads. subst (λ (t : List ℕ). FillsFrom (text_in v) (part_left t m q g)) stays (fills_now ms v a (part_left (text_in v) m q g) asked fills reads)) in
-    subst (λ (t : List ℕ). Goes (with_text l.sizes left (whole_with l.list l.call)) answer (with_text l.sizes (part_left t m q g) (whole_with ms v))) (sym stays)
-    (asks_on l.sizes path m h left (whole_with l.list l.call) x answer went (whole_of ms v) (op_in path a) (part_left path m q g) (whole_with ms v) (own ∙ on) (subst (λ (t : List ℕ). asks (whole_of ms v) ≡ Some (op_in t a)) stays asked) is same)
+    let asked = c.ask-ask.ensures.asks l.sizes.version ms fits in
+    let same = on_text l.sizes ms v (part_left path m q g) (λ reads. subst (λ (t : List ℕ). FillsFrom (text_in v) (part_left t m q g)) stays (fills_now l.sizes.version ms v a (part_left (text_in v) m q g) asked fills reads)) in
+    subst (λ (t : List ℕ). Goes (with_text l.sizes left (whole_with l.sizes.version l.list l.call)) answer (with_text l.sizes (part_left t m q g) (whole_with l.sizes.version ms v))) (sym stays)
+    (asks_on l.sizes path m h left (whole_with l.sizes.version l.list l.call) x answer went (whole_of l.sizes.version ms v) (op_in path a) (part_left path m q g) (whole_with l.sizes.version ms v) (own ∙ on) (subst (λ (t : List ℕ). asks (whole_of l.sizes.version ms v) ≡ Some (op_in t a)) stays asked) is same)
 
 pub returns-else-next-clause-tells : goal.returns-else-next-clause-tells
 returns-else-next-clause-tells c before ready after =
@@ -151,8 +152,8 @@ returns-else-next-clause-tells c before ready after =
     let answer = answer_in (part_asked l.part) c.args.answer.now c.args.hand.now in
     let left = part_left (text_in l.call) l.notes l.part before in
     let went = subst (λ (o : Option Heard). Goes left answer (part_left_after path m o did.new.part h)) (ap (λ (b : Bool). heard_if b x) c.if-part_next.true) (did.ensures.goes before ready.ready after) in
-    let own : hears path (whole_with l.list l.call path) x ≡ hears path (whole_of l.list u) x = (λ i. hears path (same_with l.list l.call u filled i path) x) ∙ (λ i. hears path (its_own l.list u i) x) in
-    let on : hears path (whole_of l.list u) x ≡ whole_of ms v = (c.next.ensures.goes ∙ ap (λ (ended : Bool). stepped (whole_of ms v) (call_in v) c.next.new.says ended) c.if-next.false) in
+    let own : hears path (whole_with l.sizes.version l.list l.call path) x ≡ hears path (whole_of l.sizes.version l.list u) x = (λ i. hears path (same_with l.sizes.version l.list l.call u filled i path) x) ∙ (λ i. hears path (its_own l.sizes.version l.list u i) x) in
+    let on : hears path (whole_of l.sizes.version l.list u) x ≡ whole_of l.sizes.version ms v = (c.next.ensures.goes ∙ ap (λ (ended : Bool). stepped (whole_of l.sizes.version ms v) (call_in v) c.next.new.says ended) c.if-next.false) in
     let a = c.ask-ask.result in
     let q = c.begin.new.self in
     let g = c.begin.new.hand in
@@ -160,7 +161,7 @@ returns-else-next-clause-tells c before ready after =
     let read = in_two v in
     let is = subst (λ (t : List ℕ). IsPart l.sizes (carry_in t m h) (op_in t a) (part_left t m q g)) (read ∙ stays) c.begin.ensures.part in
     let fills = subst (λ (t : List ℕ). FillsAs a t (part_left t m q g)) read c.begin.ensures.fills in
-    let asked = c.ask-ask.ensures.asks ms (c.next.ensures.fits c.if-next.false) in
+    let asked = c.ask-ask.ensures.asks l.sizes.version ms (c.next.ensures.fits c.if-next.false) in
     record {
       sizes = refl;
       goes = record {
@@ -168,13 +169,13 @@ returns-else-next-clause-tells c before ready after =
         goes = went;
         heard = refl;
         call = record {
-          left = sym (same_hears l.sizes path (whole_with l.list l.call path) x) ∙ own ∙ on;
+          left = sym (same_hears l.sizes path (whole_with l.sizes.version l.list l.call path) x) ∙ own ∙ on;
           op = op_in path a;
-          asked = subst (λ (t : List ℕ). asks (whole_of ms v) ≡ Some (op_in t a)) stays asked;
+          asked = subst (λ (t : List ℕ). asks (whole_of l.sizes.version ms v) ≡ Some (op_in t a)) stays asked;
           part = subst (λ (t : List ℕ). IsPart l.sizes (carry_in path m h) (op_in path a) (part_left t m q g)) (sym stays) is;
-          fills = fills_now ms v a (part_left (text_in v) m q g) asked fills;
+          fills = fills_now l.sizes.version ms v a (part_left (text_in v) m q g) asked fills;
         };
-        room = room_before l.list l.call u x filled (room_then l.list l.call u l.part (having before l.notes) x (heard_if did.result x) (ap (λ (b : Bool). heard_if b x) c.if-part_next.true) filled ready.way did.ensures.room);
+        room = room_before l.sizes.version l.list l.call u x filled (room_then l.sizes.version l.list l.call u l.part (having before l.notes) x (heard_if did.result x) (ap (λ (b : Bool). heard_if b x) c.if-part_next.true) filled ready.way did.ensures.room);
       };
     }
 
@@ -190,13 +191,14 @@ returns-else-next-clause-ready c =
     let v = c.next.new.self in
     let ms = c.next.new.list in
     let some = ap (λ (b : Bool). heard_if b x) c.if-part_next.true in
-    let leaves : (op : above.Op) (start : Having) → UnderWay (text_in l.call) op start l.part (having came.0 l.notes) → Leaves (text_in l.call) op (answer_to [] op x) start s = λ op start under. subst (λ (o : Option Heard). GoesOrLeaves (text_in l.call) op start o did.new.part s) some (did.ensures.under op start came.0 under ready.ready came.2) in
-    let on : hears (text_in u) (whole_of l.list u) x ≡ whole_of ms v = (c.next.ensures.goes ∙ ap (λ (ended : Bool). stepped (whole_of ms v) (call_in v) c.next.new.says ended) c.if-next.false) in
-    let runs = next_runs l.call u v l.list ms l.part (having came.0 l.notes) s x did.ensures.call ready.way leaves c.next.ensures.call on in
+    let leaves : (op : above.Op) (start : Having) → UnderWay l.sizes.version (text_in l.call) op start l.part (having came.0 l.notes) → Leaves l.sizes.version (text_in l.call) op (answer_to [] op x) start s = λ op start under.
+    subst (λ (o : Option Heard). GoesOrLeaves l.sizes.version (text_in l.call) op start o did.new.part s) some (did.ensures.under l.sizes.version op start came.0 under ready.ready came.2) in
+    let on : hears (text_in u) (whole_of l.sizes.version l.list u) x ≡ whole_of l.sizes.version ms v = (c.next.ensures.goes ∙ ap (λ (ended : Bool). stepped (whole_of l.sizes.version ms v) (call_in v) c.next.new.says ended) c.if-next.false) in
+    let runs = next_runs l.sizes.version l.call u v l.list ms l.part (having came.0 l.notes) s x did.ensures.call ready.way leaves c.next.ensures.call on in
     let a = c.ask-ask.result in
     let fits = c.next.ensures.fits c.if-next.false in
-    let named = c.ask-ask.ensures.named ms fits in
-    let asked = c.ask-ask.ensures.asks ms fits in
+    let named = c.ask-ask.ensures.named l.sizes.version ms fits in
+    let asked = c.ask-ask.ensures.asks l.sizes.version ms fits in
     let q = c.begin.new.self in
     let t = having c.begin.new.hand did.new.notes in
     record {
@@ -204,8 +206,8 @@ returns-else-next-clause-ready c =
       fits = fits;
       ready = c.begin.ensures.ready;
       told = c.begin.ensures.told;
-      reads = reads_now (first_in v ++ second_in v) v a s t q named c.begin.ensures.under;
-      way = way_now v ms s a asked runs q t c.begin.ensures.under;
+      reads = reads_now l.sizes.version (first_in v ++ second_in v) v a s t q named c.begin.ensures.under;
+      way = way_now l.sizes.version v ms s a asked runs q t c.begin.ensures.under;
     }
 
 pub returns-then-next-clause-goes : goal.returns-then-next-clause-goes
@@ -223,10 +225,10 @@ returns-then-next-clause-goes c before ready after =
     let answer = answer_in (part_asked l.part) c.args.answer.now c.args.hand.now in
     let left = part_left (text_in l.call) l.notes l.part before in
     let went = subst (λ (o : Option Heard). Goes left answer (part_left_after path m o did.new.part h)) (ap (λ (b : Bool). heard_if b x) c.if-part_next.true) (did.ensures.goes before ready.ready after) in
-    let own : hears path (whole_with l.list l.call path) x ≡ hears path (whole_of l.list u) x = (λ i. hears path (same_with l.list l.call u filled i path) x) ∙ (λ i. hears path (its_own l.list u i) x) in
+    let own : hears path (whole_with l.sizes.version l.list l.call path) x ≡ hears path (whole_of l.sizes.version l.list u) x = (λ i. hears path (same_with l.sizes.version l.list l.call u filled i path) x) ∙ (λ i. hears path (its_own l.sizes.version l.list u i) x) in
     let r = reply_to (call_in v) c.next.new.says in
-    let on : hears path (whole_of l.list u) x ≡ Ret r = (c.next.ensures.goes ∙ ap (λ (ended : Bool). stepped (whole_of ms v) (call_in v) c.next.new.says ended) c.if-next.true) in
-    ends_on l.sizes path m h left (whole_with l.list l.call) x answer went r (own ∙ on)
+    let on : hears path (whole_of l.sizes.version l.list u) x ≡ Ret r = (c.next.ensures.goes ∙ ap (λ (ended : Bool). stepped (whole_of l.sizes.version ms v) (call_in v) c.next.new.says ended) c.if-next.true) in
+    ends_on l.sizes path m h left (whole_with l.sizes.version l.list l.call) x answer went r (own ∙ on)
 
 pub returns-then-next-clause-ends : goal.returns-then-next-clause-ends
 returns-then-next-clause-ends c =
@@ -240,9 +242,10 @@ returns-then-next-clause-ends c =
     let v = c.next.new.self in
     let ms = c.next.new.list in
     let some = ap (λ (b : Bool). heard_if b x) c.if-part_next.true in
-    let leaves : (op : above.Op) (start : Having) → UnderWay (text_in l.call) op start l.part (having came.0 l.notes) → Leaves (text_in l.call) op (answer_to [] op x) start s = λ op start under. subst (λ (o : Option Heard). GoesOrLeaves (text_in l.call) op start o did.new.part s) some (did.ensures.under op start came.0 under ready.ready came.2) in
-    next_ends l.call u v l.list ms l.part (having came.0 l.notes) s x did.ensures.call ready.way leaves (reply_to (call_in v) c.next.new.says)
-    (c.next.ensures.goes ∙ ap (λ (ended : Bool). stepped (whole_of ms v) (call_in v) c.next.new.says ended) c.if-next.true)
+    let leaves : (op : above.Op) (start : Having) → UnderWay l.sizes.version (text_in l.call) op start l.part (having came.0 l.notes) → Leaves l.sizes.version (text_in l.call) op (answer_to [] op x) start s = λ op start under.
+    subst (λ (o : Option Heard). GoesOrLeaves l.sizes.version (text_in l.call) op start o did.new.part s) some (did.ensures.under l.sizes.version op start came.0 under ready.ready came.2) in
+    next_ends l.sizes.version l.call u v l.list ms l.part (having came.0 l.notes) s x did.ensures.call ready.way leaves (reply_to (call_in v) c.next.new.says)
+    (c.next.ensures.goes ∙ ap (λ (ended : Bool). stepped (whole_of l.sizes.version ms v) (call_in v) c.next.new.says ended) c.if-next.true)
 
 pub returns-then-next-clause-tells : goal.returns-then-next-clause-tells
 returns-then-next-clause-tells c before ready after =
@@ -259,15 +262,15 @@ returns-then-next-clause-tells c before ready after =
     let answer = answer_in (part_asked l.part) c.args.answer.now c.args.hand.now in
     let left = part_left (text_in l.call) l.notes l.part before in
     let went = subst (λ (o : Option Heard). Goes left answer (part_left_after path m o did.new.part h)) (ap (λ (b : Bool). heard_if b x) c.if-part_next.true) (did.ensures.goes before ready.ready after) in
-    let own : hears path (whole_with l.list l.call path) x ≡ hears path (whole_of l.list u) x = (λ i. hears path (same_with l.list l.call u filled i path) x) ∙ (λ i. hears path (its_own l.list u i) x) in
-    let on : hears path (whole_of l.list u) x ≡ Ret (reply_to (call_in v) c.next.new.says) = (c.next.ensures.goes ∙ ap (λ (ended : Bool). stepped (whole_of ms v) (call_in v) c.next.new.says ended) c.if-next.true) in
+    let own : hears path (whole_with l.sizes.version l.list l.call path) x ≡ hears path (whole_of l.sizes.version l.list u) x = (λ i. hears path (same_with l.sizes.version l.list l.call u filled i path) x) ∙ (λ i. hears path (its_own l.sizes.version l.list u i) x) in
+    let on : hears path (whole_of l.sizes.version l.list u) x ≡ Ret (reply_to (call_in v) c.next.new.says) = (c.next.ensures.goes ∙ ap (λ (ended : Bool). stepped (whole_of l.sizes.version ms v) (call_in v) c.next.new.says ended) c.if-next.true) in
     record {
       sizes = refl;
       goes = record {
         ends = handed path m x h;
         goes = went;
         heard = refl;
-        call = sym (same_hears l.sizes path (whole_with l.list l.call path) x) ∙ own ∙ on;
-        room = room_before l.list l.call u x filled (room_then l.list l.call u l.part (having before l.notes) x (heard_if did.result x) (ap (λ (b : Bool). heard_if b x) c.if-part_next.true) filled ready.way did.ensures.room);
+        call = sym (same_hears l.sizes path (whole_with l.sizes.version l.list l.call path) x) ∙ own ∙ on;
+        room = room_before l.sizes.version l.list l.call u x filled (room_then l.sizes.version l.list l.call u l.part (having before l.notes) x (heard_if did.result x) (ap (λ (b : Bool). heard_if b x) c.if-part_next.true) filled ready.way did.ensures.room);
       };
     }

@@ -9,5 +9,5 @@ returns-clause-asks c =
     let l = c.args.self.now in
     let h = c.args.hand.now in
     let op = op_in c.op.new.hand c.op.result in
-    asks_with l.sizes (part_left (text_in l.call) l.notes l.part h) (whole_with l.list l.call) op
+    asks_with l.sizes (part_left (text_in l.call) l.notes l.part h) (whole_with l.sizes.version l.list l.call) op
     (subst (λ (t : List ℕ). asks (part_left t l.notes l.part h) ≡ Some op) (in_two l.call) (c.op.ensures.asks (second_in l.call) l.notes c.requires.ready.told))

@@ -9,7 +9,7 @@ returns-then-is_short c =
     let m = c.args.notes.now in
     let h = c.args.hand.now in
     let op = op_in path c.args.ask in
-    let has = short_so path m c.args.ask h (sym c.is_short.ensures ∙ c.if-is_short.true) c.requires.begins in
+    let has = short_so sizes.version path m c.args.ask h (sym c.is_short.ensures ∙ c.if-is_short.true) c.requires.begins in
     let is = c.begin_short.ensures.is path in
     record {
       part = subst (λ (p : InodePart). IsPart sizes (carry_in path m h) op (part_left path m p h)) (sym is) (is_part sizes path m h op has);
@@ -17,7 +17,7 @@ returns-then-is_short c =
       told = subst (λ (p : InodePart). PartTold (first_in c.args.call.now) (second_in c.args.call.now) p) (sym is) (told_for (first_in c.args.call.now) (second_in c.args.call.now) (step_for op h));
       fills = short_fills path c.args.ask _ (sym c.is_short.ensures ∙ c.if-is_short.true);
       known = λ begins. (is, refl);
-      under = subst (λ (p : InodePart). UnderWay path op (having h m) p (having h m)) (sym is) (under_way path op h m has);
+      under = subst (λ (p : InodePart). UnderWay sizes.version path op (having h m) p (having h m)) (sym is) (under_way sizes.version path op h m has);
       hand = refl;
     }
 
@@ -25,7 +25,7 @@ pub begin_take-requires : goal.begin_take-requires
 begin_take-requires c =
     let path = first_in c.args.call.now ++ second_in c.args.call.now in
     let m = c.args.notes.now in
-    record { sizes = c.requires.sized; begins = (path, m, subst (λ (a : Ask). BeginsWith path (op_in path a) (having c.args.hand.now m)) c.in-Take.is c.requires.begins) }
+    record { sizes = c.requires.sized; begins = (path, m, subst (λ (a : Ask). BeginsWith c.args.sizes.now.version path (op_in path a) (having c.args.hand.now m)) c.in-Take.is c.requires.begins) }
 
 pub returns-in-Take : goal.returns-in-Take
 returns-in-Take c =
@@ -35,7 +35,7 @@ returns-in-Take c =
     let m = c.args.notes.now in
     let h = c.args.hand.now in
     let p = c.begin_take.new.self in
-    subst (λ (a : Ask). BeginsWith path (op_in path a) (having h m) → AskTold first second a → PartHasBegun c.args.sizes.now first second a m h p h) (sym c.in-Take.is)
+    subst (λ (a : Ask). BeginsWith c.args.sizes.now.version path (op_in path a) (having h m) → AskTold c.args.sizes.now.version first second a → PartHasBegun c.args.sizes.now first second a m h p h) (sym c.in-Take.is)
     (λ begins told.
     record {
       part = c.begin_take.ensures.part path m begins;

@@ -12,6 +12,6 @@ returns-clause-part c path name begins =
     let slot = c.found_slot-slot.ensures ∙ ap (λ (k : InodePlace). slot_in (note_at k m)) is in
     let program =
     c.new-clear.ensures.program before
-    ∙ ap (λ (d : Dinode). let p : P Dinode = put_entry sizes.inodestart n d c.found_slot-slot.result Free in p) there
-    ∙ ap (λ (s : ℕ). let p : P Dinode = put_entry sizes.inodestart n (record_in (seat_of_lock n before) before) s Free in p) slot in
+    ∙ ap (λ (d : Dinode). let p : P Dinode = put_entry sizes.version sizes.inodestart n d c.found_slot-slot.result Free in p) there
+    ∙ ap (λ (s : ℕ). let p : P Dinode = put_entry sizes.version sizes.inodestart n (record_in (seat_of_lock n before) before) s Free in p) slot in
     clear_is_part sizes path m n name before (record { seat = c.lock_seat-seat.result; slot = c.found_slot-slot.result; clear = c.new-clear.result }) begins is slot program

@@ -126,7 +126,7 @@ begin_enter-requires c =
     let few : c.in-Enter.number < 2 ^ 32 = search rules in
     let first = first_in c.args.call.now in
     let is = c.name-name.ensures ∙ ap (λ (t : List ℕ). name_in (t ++ c.second.result.now) c.in-Enter.element) c.text.ensures ∙ ap (λ (t : List ℕ). name_in (first ++ t) c.in-Enter.element) c.second.ensures in
-    (may_change c.args.sizes.now may.sized c.in-Enter.number c.args.hand.now few may.begins.0, may.sized.size, subst (λ (name : Name). IsName name) (sym is) may.begins.1)
+    (may_change c.args.sizes.now may.sized c.in-Enter.number c.args.hand.now few may.begins.0, may.sized.size, subst (λ (name : Name). IsName c.args.sizes.now.version name) (sym is) may.begins.1)
 
 pub returns-in-Enter : goal.returns-in-Enter
 returns-in-Enter c =
@@ -138,7 +138,7 @@ returns-in-Enter c =
     let p = c.begin_enter.new.self in
     let is = c.name-name.ensures ∙ ap (λ (t : List ℕ). name_in (t ++ c.second.result.now) c.in-Enter.element) c.text.ensures ∙ ap (λ (t : List ℕ). name_in (first ++ t) c.in-Enter.element) c.second.ensures in
     let part = subst (λ (name : Name). IsPart c.args.sizes.now (carry_in path m h) (Enter c.in-Enter.number name c.in-Enter.child) (part_left path m p h)) is (did.part path m) in
-    let under = subst (λ (name : Name). UnderWay path (Enter c.in-Enter.number name c.in-Enter.child) (having h m) p (having h m)) is (did.under path m) in
+    let under = subst (λ (name : Name). UnderWay c.args.sizes.now.version path (Enter c.in-Enter.number name c.in-Enter.child) (having h m) p (having h m)) is (did.under path m) in
     rw c.in-Enter.is (record { part = part; ready = did.ready; told = did.told (first_in c.args.call.now) (second_in c.args.call.now); fills = tt; known = λ none. absurd none; under = under; hand = did.hand })
 
 pub begin_read_file-requires : goal.begin_read_file-requires
@@ -153,7 +153,7 @@ returns-in-ReadFile c =
     let offset = c.in-ReadFile.field-2 in
     let did = c.begin_read_file.ensures in
     let told = subst (λ (t : List ℕ). PartTold first t c.begin_read_file.new.self) (sym may.stands.2) (did.told first may.stands.0) in
-    rw c.in-ReadFile.is (record { part = did.part c.args.sizes.now path offset may.begins; ready = did.ready; told = told; fills = did.fills path; known = λ none. absurd none; under = did.under path offset; hand = refl })
+    rw c.in-ReadFile.is (record { part = did.part c.args.sizes.now path offset may.begins; ready = did.ready; told = told; fills = did.fills path; known = λ none. absurd none; under = did.under c.args.sizes.now.version path offset; hand = refl })
 
 pub begin_write_file-requires : goal.begin_write_file-requires
 begin_write_file-requires c =
@@ -182,13 +182,13 @@ returns-in-WriteFile c =
     let part = subst (λ (t : List ℕ). IsPart c.args.sizes.now (carry_in t m h) (WriteFile w.fd w.number offset (piece t w.index)) (part_left t m p h))
     (c.text-in-WriteFile.ensures ∙ alone first second may.stands.1) (did.part offset (may_write c.args.sizes.now may.sized w.number w.fd offset (having h m) few may.begins)) in
     let told = subst (λ (t : List ℕ). PartTold first t p) (sym may.stands.1) (subst (λ (t : List ℕ). PartTold t [] p) c.text-in-WriteFile.ensures did.told) in
-    rw c.in-WriteFile.is (record { part = part; ready = did.ready; told = told; fills = tt; known = λ none. absurd none; under = did.under path (piece path w.index) offset; hand = refl })
+    rw c.in-WriteFile.is (record { part = part; ready = did.ready; told = told; fills = tt; known = λ none. absurd none; under = did.under c.args.sizes.now.version path (piece path w.index) offset; hand = refl })
 
 pub begin_take-requires : goal.begin_take-requires
 begin_take-requires c =
     let path = first_in c.args.call.now ++ second_in c.args.call.now in
     let m = c.args.notes.now in
-    record { sizes = c.requires.sized; begins = (path, m, subst (λ (a : Ask). BeginsWith path (op_in path a) (having c.args.hand.now m)) c.in-Take.is c.requires.begins) }
+    record { sizes = c.requires.sized; begins = (path, m, subst (λ (a : Ask). BeginsWith c.args.sizes.now.version path (op_in path a) (having c.args.hand.now m)) c.in-Take.is c.requires.begins) }
 
 pub returns-in-Take : goal.returns-in-Take
 returns-in-Take c =
@@ -198,7 +198,7 @@ returns-in-Take c =
     let m = c.args.notes.now in
     let h = c.args.hand.now in
     let p = c.begin_take.new.self in
-    subst (λ (a : Ask). BeginsWith path (op_in path a) (having h m) → AskTold first second a → PartHasBegun c.args.sizes.now first second a m h p h) (sym c.in-Take.is)
+    subst (λ (a : Ask). BeginsWith c.args.sizes.now.version path (op_in path a) (having h m) → AskTold c.args.sizes.now.version first second a → PartHasBegun c.args.sizes.now first second a m h p h) (sym c.in-Take.is)
     (λ begins told.
     record {
       part = c.begin_take.ensures.part path m begins;
@@ -218,7 +218,7 @@ returns-in_default c =
     let h = c.args.hand.now in
     let op = op_in path c.args.ask in
     let no = c.in_default in
-    let has = short_begins path m c.args.ask h c.requires.begins no.not-Store no.not-Empty no.not-Enter no.not-Clear no.not-Fill no.not-Free no.not-Claim no.not-LockOpen no.not-LockFile no.not-StatFile no.not-Take no.not-ReadFile no.not-WriteFile in
+    let has = short_begins sizes.version path m c.args.ask h c.requires.begins no.not-Store no.not-Empty no.not-Enter no.not-Clear no.not-Fill no.not-Free no.not-Claim no.not-LockOpen no.not-LockFile no.not-StatFile no.not-Take no.not-ReadFile no.not-WriteFile in
     let is = c.begin_short.ensures.is path in
     record {
       part = subst (λ (p : InodePart). IsPart sizes (carry_in path m h) op (part_left path m p h)) (sym is) (is_part sizes path m h op has);
@@ -226,6 +226,6 @@ returns-in_default c =
       told = subst (λ (p : InodePart). PartTold (first_in c.args.call.now) (second_in c.args.call.now) p) (sym is) (told_for (first_in c.args.call.now) (second_in c.args.call.now) (step_for op h));
       fills = other_fills path c.args.ask _ no.not-ReadFile;
       known = λ begins. (is, refl);
-      under = subst (λ (p : InodePart). UnderWay path op (having h m) p (having h m)) (sym is) (under_way path op h m has);
+      under = subst (λ (p : InodePart). UnderWay sizes.version path op (having h m) p (having h m)) (sym is) (under_way sizes.version path op h m has);
       hand = refl;
     }

@@ -44,4 +44,4 @@ returns-else-there-clause-under c path m begins =
     let q = query_in path c.args.query in
     let few : n < 2 ^ 32 = search rules in
     let has = relocked_by sizes n q h c.reference_seat-seat.result c.reference_seat-seat.ensures (sym c.refers_at-there.ensures ∙ c.if-there.false) (may_take_by sizes c.requires.sizes n q h few begins) in
-    subst (λ (q : Query). UnderWay path (Take n q) (having h m) (part.Relock c.begin-else-there.result) (having h m)) (sym has.1) ((refl, c.begin-else-there.ensures.amid n has.0), refl)
+    subst (λ (q : Query). UnderWay sizes.version path (Take n q) (having h m) (part.Relock c.begin-else-there.result) (having h m)) (sym has.1) ((refl, c.begin-else-there.ensures.amid n has.0), refl)

@@ -12,87 +12,87 @@ returns-in-LockFile-clause-goes c before =
     (lock_file_after path did.new.notes (heard_if did.result did.new.heard) did.new.self did.new.hand) (did.ensures.goes path before ready after))
 
 pub returns-in-One-clause-under : goal.returns-in-One-clause-under
-returns-in-One-clause-under c op start before =
+returns-in-One-clause-under c version op start before =
     let did = c.next in
     rw c.in-One.is (λ under ready after.
-    step_leaves (text_in c.args.call.now) c.args.notes.now did.new.notes before c.args.hand.now c.args.answer.now did.new.heard op c.in-One.step start under after (did.ensures.goes (text_in c.args.call.now) before ready after) did.ensures.notes)
+    step_leaves version (text_in c.args.call.now) c.args.notes.now did.new.notes before c.args.hand.now c.args.answer.now did.new.heard op c.in-One.step start under after (did.ensures.goes (text_in c.args.call.now) before ready after) did.ensures.notes)
 
 pub returns-in-Store-clause-under : goal.returns-in-Store-clause-under
-returns-in-Store-clause-under c op start before =
+returns-in-Store-clause-under c version op start before =
     let path = text_in c.args.call.now in
     let did = c.next-in-Store in
     rw c.in-Store.is (λ under ready after.
-    stores path start before did.new.hand c.args.notes.now did.new.notes (heard_if did.result did.new.heard) c.in-Store.part did.new.self (λ n count amid. did.ensures.leaves path (n, count) start.hand before amid ready after) op under)
+    stores version path start before did.new.hand c.args.notes.now did.new.notes (heard_if did.result did.new.heard) c.in-Store.part did.new.self (λ n count amid. did.ensures.leaves version path (n, count) start.hand before amid ready after) op under)
 
 pub returns-in-Empty-clause-under : goal.returns-in-Empty-clause-under
-returns-in-Empty-clause-under c op start before =
+returns-in-Empty-clause-under c version op start before =
     let path = text_in c.args.call.now in
     let did = c.next-in-Empty in
     rw c.in-Empty.is (λ under ready after.
-    empties path start before did.new.hand c.args.notes.now did.new.notes (heard_if did.result did.new.heard) c.in-Empty.part did.new.self (λ n amid. did.ensures.leaves path n start.hand before amid ready after) op under)
+    empties version path start before did.new.hand c.args.notes.now did.new.notes (heard_if did.result did.new.heard) c.in-Empty.part did.new.self (λ n amid. did.ensures.leaves version path n start.hand before amid ready after) op under)
 
 pub returns-in-Enter-clause-under : goal.returns-in-Enter-clause-under
-returns-in-Enter-clause-under c op start before =
+returns-in-Enter-clause-under c version op start before =
     let path = text_in c.args.call.now in
     let did = c.next-in-Enter in
     rw c.in-Enter.is (λ under ready after.
-    enters path start before did.new.hand c.args.notes.now did.new.notes (heard_if did.result did.new.heard) c.in-Enter.part did.new.self (λ n child e amid. did.ensures.leaves path (n, child, e) start.hand before amid ready after) op under)
+    enters version path start before did.new.hand c.args.notes.now did.new.notes (heard_if did.result did.new.heard) c.in-Enter.part did.new.self (λ n child e amid. did.ensures.leaves version path (n, child, e) start.hand before amid ready after) op under)
 
 pub returns-in-Clear-clause-under : goal.returns-in-Clear-clause-under
-returns-in-Clear-clause-under c op start before =
+returns-in-Clear-clause-under c version op start before =
     let path = text_in c.args.call.now in
     let did = c.next-in-Clear in
     rw c.in-Clear.is (λ under ready after.
-    clears path start before did.new.hand c.args.notes.now did.new.notes (heard_if did.result did.new.heard) c.in-Clear.part did.new.self (λ n e amid. did.ensures.leaves path (n, e) start.hand before amid ready after) op under)
+    clears version path start before did.new.hand c.args.notes.now did.new.notes (heard_if did.result did.new.heard) c.in-Clear.part did.new.self (λ n e amid. did.ensures.leaves version path (n, e) start.hand before amid ready after) op under)
 
 pub returns-in-Fill-clause-under : goal.returns-in-Fill-clause-under
-returns-in-Fill-clause-under c op start before =
+returns-in-Fill-clause-under c version op start before =
     let path = text_in c.args.call.now in
     let did = c.next-in-Fill in
     rw c.in-Fill.is (λ under ready after.
-    fills path start before did.new.hand c.args.notes.now did.new.notes (heard_if did.result did.new.heard) c.in-Fill.part did.new.self (λ n d amid. did.ensures.leaves path (n, d) start.hand before amid ready after) op under)
+    fills version path start before did.new.hand c.args.notes.now did.new.notes (heard_if did.result did.new.heard) c.in-Fill.part did.new.self (λ n d amid. did.ensures.leaves version path (n, d) start.hand before amid ready after) op under)
 
 pub returns-in-Free-clause-under : goal.returns-in-Free-clause-under
-returns-in-Free-clause-under c op start before =
+returns-in-Free-clause-under c version op start before =
     let path = text_in c.args.call.now in
     let did = c.next-in-Free in
     rw c.in-Free.is (λ under ready after.
-    frees path start before did.new.hand c.args.notes.now did.new.notes (heard_if did.result did.new.heard) c.in-Free.part did.new.self (λ n amid. did.ensures.leaves path n start.hand before amid ready after) op under)
+    frees version path start before did.new.hand c.args.notes.now did.new.notes (heard_if did.result did.new.heard) c.in-Free.part did.new.self (λ n amid. did.ensures.leaves version path n start.hand before amid ready after) op under)
 
 pub returns-in-Claim-clause-under : goal.returns-in-Claim-clause-under
-returns-in-Claim-clause-under c op start before =
+returns-in-Claim-clause-under c version op start before =
     let path = text_in c.args.call.now in
     let did = c.next-in-Claim in
     rw c.in-Claim.is (λ under ready after.
-    claims path start before did.new.hand c.args.notes.now did.new.notes (heard_if did.result did.new.heard) c.in-Claim.part did.new.self (λ inode_type amid. did.ensures.leaves path inode_type start.hand before amid ready after) op under)
+    claims version path start before did.new.hand c.args.notes.now did.new.notes (heard_if did.result did.new.heard) c.in-Claim.part did.new.self (λ inode_type amid. did.ensures.leaves version path inode_type start.hand before amid ready after) op under)
 
 pub returns-in-LockOpen-clause-under : goal.returns-in-LockOpen-clause-under
-returns-in-LockOpen-clause-under c op start before =
+returns-in-LockOpen-clause-under c version op start before =
     let path = text_in c.args.call.now in
     let did = c.next-in-LockOpen in
     rw c.in-LockOpen.is (λ under ready after.
-    lock_opens path start before did.new.hand c.args.notes.now did.new.notes (heard_if did.result did.new.heard) c.in-LockOpen.part did.new.self (λ fd n amid. did.ensures.leaves path (fd, n) start.hand before amid ready after) op under)
+    lock_opens version path start before did.new.hand c.args.notes.now did.new.notes (heard_if did.result did.new.heard) c.in-LockOpen.part did.new.self (λ fd n amid. did.ensures.leaves version path (fd, n) start.hand before amid ready after) op under)
 
 pub returns-in-LockFile-clause-under : goal.returns-in-LockFile-clause-under
-returns-in-LockFile-clause-under c op start before =
+returns-in-LockFile-clause-under c version op start before =
     let path = text_in c.args.call.now in
     let did = c.next-in-LockFile in
     rw c.in-LockFile.is (λ under ready after.
-    lock_files path start before did.new.hand c.args.notes.now did.new.notes (heard_if did.result did.new.heard) c.in-LockFile.part did.new.self (λ fd amid. did.ensures.leaves path fd start.hand before amid ready after) op under)
+    lock_files version path start before did.new.hand c.args.notes.now did.new.notes (heard_if did.result did.new.heard) c.in-LockFile.part did.new.self (λ fd amid. did.ensures.leaves version path fd start.hand before amid ready after) op under)
 
 pub returns-in-Relock-clause-under : goal.returns-in-Relock-clause-under
-returns-in-Relock-clause-under c op start before =
+returns-in-Relock-clause-under c version op start before =
     let path = text_in c.args.call.now in
     let did = c.next-in-Relock in
     rw c.in-Relock.is (λ under ready after.
-    relocks path start before did.new.hand c.args.notes.now did.new.notes (heard_if did.result did.new.heard) c.in-Relock.part did.new.self (λ n amid. did.ensures.leaves path n start.hand before amid ready after) op under)
+    relocks version path start before did.new.hand c.args.notes.now did.new.notes (heard_if did.result did.new.heard) c.in-Relock.part did.new.self (λ n amid. did.ensures.leaves version path n start.hand before amid ready after) op under)
 
 pub returns-in-StatFile-clause-under : goal.returns-in-StatFile-clause-under
-returns-in-StatFile-clause-under c op start before =
+returns-in-StatFile-clause-under c version op start before =
     let path = text_in c.args.call.now in
     let did = c.next-in-StatFile in
     rw c.in-StatFile.is (λ under ready after.
-    stats path start before did.new.hand c.args.notes.now did.new.notes (heard_if did.result did.new.heard) c.in-StatFile.part did.new.self (λ fd amid. did.ensures.leaves path fd start.hand before amid ready after) op under)
+    stats version path start before did.new.hand c.args.notes.now did.new.notes (heard_if did.result did.new.heard) c.in-StatFile.part did.new.self (λ fd amid. did.ensures.leaves version path fd start.hand before amid ready after) op under)
 
 pub returns-in-StatFile-clause-goes : goal.returns-in-StatFile-clause-goes
 returns-in-StatFile-clause-goes c before =
@@ -104,12 +104,12 @@ returns-in-StatFile-clause-goes c before =
     (stat_after path did.new.notes (heard_if did.result did.new.heard) did.new.self did.new.hand) (did.ensures.goes path before ready after))
 
 pub returns-in-WriteFile-clause-under : goal.returns-in-WriteFile-clause-under
-returns-in-WriteFile-clause-under c op start before =
+returns-in-WriteFile-clause-under c version op start before =
     let path = text_in c.args.call.now in
     let m = c.args.notes.now in
     let did = c.next-in-WriteFile in
     rw c.in-WriteFile.is (λ under ready after.
-    writes path start before did.new.hand m m (heard_if did.result did.new.heard) c.in-WriteFile.part did.new.self (λ fd n offset bytes amid. did.ensures.leaves path m fd n offset bytes start.hand before amid ready after) op under)
+    writes version path start before did.new.hand m m (heard_if did.result did.new.heard) c.in-WriteFile.part did.new.self (λ fd n offset bytes amid. did.ensures.leaves version path m fd n offset bytes start.hand before amid ready after) op under)
 
 -- ---- what reads the call's text
 
@@ -141,7 +141,7 @@ returns-in-Take-clause-goes c before =
     (take_after path did.new.notes o did.new.self did.new.hand) (did.ensures.goes before ready after)))
 
 pub returns-in-Take-clause-under : goal.returns-in-Take-clause-under
-returns-in-Take-clause-under c op start before =
+returns-in-Take-clause-under c version op start before =
     let w = c.args.call.now in
     let m = c.args.notes.now in
     let p = c.in-Take.part in
@@ -149,9 +149,9 @@ returns-in-Take-clause-under c op start before =
     let o = heard_if did.result did.new.heard in
     let read = read_text w c.text-path.result.now c.second-second.result.now c.text-path.ensures c.second-second.ensures in
     rw c.in-Take.is (λ under ready after.
-    subst (λ (text : List ℕ). GoesOrLeaves text op start o (part.Take did.new.self) (having did.new.hand did.new.notes)) read
-    (takes (c.text-path.result.now ++ c.second-second.result.now) start before did.new.hand m did.new.notes o p did.new.self (λ n looking amid. did.ensures.leaves n looking start.hand before amid ready after) op
-    (subst (λ (text : List ℕ). UnderWay text op start (part.Take p) (having before m)) (sym read) under)))
+    subst (λ (text : List ℕ). GoesOrLeaves version text op start o (part.Take did.new.self) (having did.new.hand did.new.notes)) read
+    (takes version (c.text-path.result.now ++ c.second-second.result.now) start before did.new.hand m did.new.notes o p did.new.self (λ n looking amid. did.ensures.leaves version n looking start.hand before amid ready after) op
+    (subst (λ (text : List ℕ). UnderWay version text op start (part.Take p) (having before m)) (sym read) under)))
 
 pub returns-in-Take-clause-told : goal.returns-in-Take-clause-told
 returns-in-Take-clause-told c =

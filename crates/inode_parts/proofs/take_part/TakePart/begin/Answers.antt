@@ -23,4 +23,4 @@ returns-clause-amid c path =
     let k = c.reference_seat-seat.result in
     let l = lock_seat c.new-lock.result in
     let has = take_asks c.args.sizes.now c.args.number k l h c.reference_seat-seat.ensures c.new-lock.ensures.seat c.requires.begins in
-    (c.requires.begins.0, c.new-lock.ensures.seat ∙ c.reference_seat-seat.ensures, refl, comes_first l h has.4 c.requires.begins.3.0)
+    (c.requires.begins.0, c.new-lock.ensures.seat ∙ c.reference_seat-seat.ensures, refl, comes_first l h has.4 c.requires.begins.3.0, refl)

@@ -2,7 +2,7 @@ use Rattle.syscalls.proofs.Lemmas.{sym, subst, IsEmpty, bare-fits, Running, runn
 use Rattle.syscalls.proofs.place.CallPlace.start.Goals as goal
 
 pub start-requires-clause-runs : goal.start-requires-clause-runs
-start-requires-clause-runs c = c.calls_run_by_parts.ensures c.args.call c.requires.call
+start-requires-clause-runs c = c.calls_run_by_parts.ensures c.args.sizes.now.version c.args.call c.requires.call
 
 pub returns : goal.returns
 unfolding running_of

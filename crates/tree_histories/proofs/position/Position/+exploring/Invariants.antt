@@ -15,14 +15,14 @@ decreases-explore_step l = 4 * steps_left l.trace.now l.self.now
 
 abbrev pub invariant-explore-loop-id : goal.invariant-explore-loop-id
 invariant-explore-loop-id l = record {
-  kept : IsKept l.base l.trace l.fn.self l.self;
-  first : IsDead l.trace l.fn.self l.first;
-  due : IsDead l.trace l.fn.self l.due.id;
-  dead : (k : ℕ) → k < l.id → IsDead l.trace l.fn.self k;
+  kept : IsKept l.version l.base l.trace l.fn.self l.self;
+  first : IsDead l.version l.trace l.fn.self l.first;
+  due : IsDead l.version l.trace l.fn.self l.due.id;
+  dead : (k : ℕ) → k < l.id → IsDead l.version l.trace l.fn.self k;
 }
 
 abbrev pub invariant-explore_numbers-loop-number : goal.invariant-explore_numbers-loop-number
 invariant-explore_numbers-loop-number l = record {
-  kept : IsKept l.base l.trace l.fn.self l.self;
-  dead : (n : ℕ) → 1 ≤ n → n < l.number → IsDeadWith l.trace l.fn.self l.id n;
+  kept : IsKept l.version l.base l.trace l.fn.self l.self;
+  dead : (n : ℕ) → 1 ≤ n → n < l.number → IsDeadWith l.version l.trace l.fn.self l.id n;
 }

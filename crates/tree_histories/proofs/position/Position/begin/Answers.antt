@@ -18,11 +18,11 @@ loop-traced-preserved c =
     }
 
 pub returns-clause-at : goal.returns-clause-at
-returns-clause-at c =
+returns-clause-at c version =
     let calls = c.args.trace.now.calls in
     let end : length c.as_slice-traced-items.result.now ≤ c.loop-traced.traced-index = c.loop-traced-test.false in
     let most : c.loop-traced.traced-index ≤ length c.as_slice-traced-items.result.now = c.loop-traced.auto.traced-index-end in
     let n : c.loop-traced.traced-index ≡ length calls = omega (arith, ap length c.as_slice-traced-items.ensures) in
     let ends = c.in_ok-new.ensures in
-    begin_at c.args.base.now c.args.trace.now _ (c.tree.view_is ∙ c.in_ok-tree.ensures) c.new.ensures.items (c.loop-traced.invariant.stands ∙ n) (ap length ends ∙ c.loop-traced.invariant.ends ∙ n) c.loop-traced.invariant.all_start
+    begin_at version c.args.base.now c.args.trace.now _ (c.tree.view_is ∙ c.in_ok-tree.ensures) c.new.ensures.items (c.loop-traced.invariant.stands ∙ n) (ap length ends ∙ c.loop-traced.invariant.ends ∙ n) c.loop-traced.invariant.all_start
     (subst (λ xs. EndsAt calls xs (length calls)) (sym ends) (subst (λ i. EndsAt calls c.loop-traced.ends.items i) n c.loop-traced.invariant.all_end))

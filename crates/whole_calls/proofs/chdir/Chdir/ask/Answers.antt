@@ -1,4 +1,7 @@
 use Rattle.whole_calls.proofs.chdir.Chdir.ask.Goals as goal
 
+pub returns-in-Walks-clause-named : goal.returns-in-Walks-clause-named
+returns-in-Walks-clause-named c v list = rw c.in-Walks.is (λ fits. c.ask.ensures.named v fits.0)
+
 pub returns-in-Ends-clause-named : goal.returns-in-Ends-clause-named
-returns-in-Ends-clause-named c list fits = c.ask-in-Ends.ensures.named c.args.path.now
+returns-in-Ends-clause-named c v list fits = c.ask-in-Ends.ensures.named v c.args.path.now
