@@ -23,6 +23,9 @@ pub mod Retold
 pub mod StepRuns
 pub mod FaithfulRuns
 pub mod ActsAt
+pub mod AlikeLogs
+pub mod AlikeRuns
+pub mod Agreeing
 pub mod RoomRuns
 pub mod OneAnswer
 pub mod ReadOn

@@ -7,6 +7,7 @@ pub mod Faithful
 pub mod ActsAt
 pub mod Rooms
 pub mod OneList
+pub mod Agreeing
 pub mod Wants
 pub mod Searches
 pub mod Seen

@@ -5,6 +5,7 @@
 #![tactic(auto)]
 
 ghost use Rattle.run_laws.specs.ActsAt.{OperationsActFirstOrLast};
+ghost use Rattle.run_laws.specs.Agreeing.{RunsOnOneImageAgree};
 ghost use Rattle.run_laws.specs.Answered.{CallsFindNoneWhereThereIsNone};
 ghost use Rattle.run_laws.specs.Changes.{ChangesAreTold, ShortWritesAreShort, WritesAreMade};
 ghost use Rattle.run_laws.specs.Faithful.{CallsGoOnAsTheyActed};
@@ -166,6 +167,16 @@ pub fn runs_have_one_list<D: Device>(world: &World<D>)
     ensures { RunsHaveOneList D.contents D.failures world.now }
 {
     let _ = world;
+}
+
+/// The image and the events fix a run, as long as the device doesn't fail. Two worlds may be mounted on devices with
+/// the same blocks, and run the same events. Then each event has the same outcome in both, and both runs have one
+/// list of tree steps. Only what the log's own blocks hold may differ.
+pub fn runs_on_one_image_agree<D: Device>(world: &World<D>, other: &World<D>)
+    ensures { RunsOnOneImageAgree D.contents D.failures world.now other.now }
+{
+    let _ = world;
+    let _ = other;
 }
 
 /// After any events of a run of a mounted world, a hart without a call has raised no link count for a name to come.
