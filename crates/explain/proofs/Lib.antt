@@ -4,3 +4,4 @@ pub mod Mounting
 pub mod Noting
 pub mod Own
 pub mod Running
+pub mod OneRun

@@ -18,7 +18,7 @@ refused_so image events (refused.Damaged d) mount = mount
 refused_so image events refused.FullSeen mount = absurd mount
 refused_so image events refused.Climbs mount = absurd mount
 
-none_climbs : (cs : List TracedCall) → any_climbs cs ≡ false → All (λ (c : TracedCall). call_climbs c.call ≡ false) cs
+pub none_climbs : (cs : List TracedCall) → any_climbs cs ≡ false → All (λ (c : TracedCall). call_climbs c.call ≡ false) cs
 none_climbs [] none = All-nil (λ (c : TracedCall). call_climbs c.call ≡ false)
 none_climbs (c ∷ cs) none =
     let parts = or_parts (call_climbs c.call) (any_climbs cs) none in
@@ -87,6 +87,7 @@ module _ (image : List ℕ) (events : List Event) (few : length events < 2 ^ 64)
       record {
         run = run;
         room = each_found room;
+        flat = flat;
         explains = is;
         own = own;
         stops = λ history one n le. runs_have_one_list blocks_of never run.world image events run.outcomes run.new history run.starts.mounted one (each_found room history one) (inl (none_climbs trace.calls flat)) n le;

@@ -47,12 +47,14 @@ module _ (image : List ℕ) (events : List Event) (r : RunOn image events) where
   abbrev pub NeverFoundRoom : Type 0
   NeverFoundRoom = (history : List (EventOf Call Outside)) → IsOneOf history → RoomIn history → ⊥
 
--- Each step of such a run found room, and the list explains what the run shows of calls, from the image's tree. It is
--- the run's own: that of each of its histories. If the run stops at any event, the list so far is a beginning of it.
--- Then the disk's tree is what has names in the tree after a beginning of it.
+-- Each step of such a run found room, and no path of a call that it started has the element "..". The list explains
+-- what the run shows of calls, from the image's tree. It is the run's own: that of each of its histories. If the run
+-- stops at any event, the list so far is a beginning of it. Then the disk's tree is what has names in the tree after a
+-- beginning of it.
 pub record OwnsRun (image : List ℕ) (events : List Event) (list : List Placed) : Type 0 where
   pub run : RunOn image events
   pub room : EachFoundRoom image events run
+  pub flat : any_climbs (trace_in events run.outcomes).calls ≡ false
   pub explains : Explains (version_in (blocks_of image)) (tree_in (blocks_of image)) (trace_in events run.outcomes) list
   pub own : (history : List (EventOf Call Outside)) → IsOneOf image events run history
       → list ≡ list_of blocks_of never run.world history

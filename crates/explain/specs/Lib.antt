@@ -1,6 +1,7 @@
 pub mod Vocabulary
 pub mod Keeps
 pub mod Explained
+pub mod OneRun
 pub mod Numbers
 pub mod Played
 pub mod Telling

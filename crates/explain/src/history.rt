@@ -4,6 +4,7 @@ ghost use Rattle.std.specs.Option.{MatchOption};
 ghost use Rattle.explain.specs.Vocabulary.{any_climbs, trace_in, Explains};
 ghost use Rattle.explain.specs.Explained.{IsFoundFor, IsRefusedSo, OwnsRun};
 ghost use Rattle.explain.specs.Keeps.{HandsOut};
+ghost use Rattle.explain.specs.OneRun.{AnyRunsAgree, ListsAreOfEachRun, RefusalsAreOfEachRun};
 ghost use Rattle.explain.specs.Played.{IsFound};
 
 use crate::keep::Keeper;
@@ -99,3 +100,12 @@ pub fn explain_noted(
         Err(NoMemory) => Err(ExplainRefused::NoMemory),
     }
 }
+
+/// A law, for a reader; nothing is done. The image and the events fix the run in memory: any two such runs have the
+/// same outcomes and one list. So the list that `explain` hands out is that of each, and each has the reason for which
+/// it refuses.
+pub fn any_runs_agree()
+    ensures agree { AnyRunsAgree }
+    ensures lists { ListsAreOfEachRun }
+    ensures refusals { RefusalsAreOfEachRun }
+{}

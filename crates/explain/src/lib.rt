@@ -8,6 +8,6 @@ mod keep;
 mod play;
 mod refused;
 
-pub use crate::history::{explain, explain_noted};
+pub use crate::history::{any_runs_agree, explain, explain_noted};
 pub use crate::keep::Keeper;
 pub use crate::refused::ExplainRefused;
