@@ -1,7 +1,10 @@
 pub mod Lemmas
 pub mod Vocabulary
+pub mod Climbing
+pub mod Handing
 pub mod Mounting
 pub mod Noting
 pub mod Own
+pub mod Rooms
 pub mod Running
 pub mod OneRun

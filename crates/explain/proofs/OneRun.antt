@@ -56,13 +56,8 @@ module _ (image : List ℕ) (events : List Event) where
       flat : any_climbs (trace_in events run.outcomes).calls ≡ false
       flat = subst (λ (cs : List Came). any_climbs (trace_in events cs).calls ≡ false) same owns.flat
 
-  full_in_each : (one run : RunOn image events) → (any_full (trace_in events one.outcomes).calls ≡ true) ⊎ NeverFoundRoom image events one
-      → (any_full (trace_in events run.outcomes).calls ≡ true) ⊎ NeverFoundRoom image events run
-  full_in_each one run (inl full) = inl (subst (λ (cs : List Came). any_full (trace_in events cs).calls ≡ true) (agree one run).outcomes full)
-  full_in_each one run (inr none) = inr (never_found one run none)
-
   no_room_in_each : HoldsOfEach image events (FindsNoRoom image events) (λ o. o.run)
-  no_room_in_each finds run = (record { run = run; full = full_in_each finds.run run finds.full }, refl)
+  no_room_in_each finds run = (record { run = run; full = never_found finds.run run finds.full }, refl)
 
   climbs_in_each : HoldsOfEach image events (HasClimbed image events) (λ o. o.run)
   climbs_in_each has run = (

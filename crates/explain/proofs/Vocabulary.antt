@@ -4,11 +4,10 @@ unfoldable pub use Rattle.hart_core.proofs.Vocabulary.{sizes_of}
 pub use Rattle.explain.specs.Vocabulary.{Global, any_climbs}
 unfoldable pub use Rattle.explain.specs.Vocabulary.{blocks_of}
 pub use Rattle.image_tree.proofs.Vocabulary.{Err, Ok, Result, Vec}
-pub use Rattle.explain.specs.Explained.{IsFoundFor, IsRefusedFor, IsRefusedMount, IsRefusedSo, RunOn, StartsOn, never, refused_by}
+pub use Rattle.explain.specs.Explained.{IsRefusedMount, IsRefusedSo, RunOn, StartsOn, never, refused_by}
 pub use Rattle.explain.specs.Played.{IsPlayed}
 pub use Rattle.explain.specs.declared.play.Played.{Played}
 pub use Rattle.explain.specs.declared.refused.ExplainRefused.{ExplainRefused}
-pub use Rattle.hart_core.proofs.Histories.{explained}
 pub use Rattle.image_tree.specs.Images.{JudgesFault}
 pub use Rattle.image_tree.specs.declared.fault.MountFault.TheVariants.{Damaged, DeviceFault, NoMemory}
 pub use Rattle.std.proofs.Common.{MatchResult}

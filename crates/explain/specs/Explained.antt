@@ -1,10 +1,10 @@
 -- What a run of events on an image is explained by, and why it isn't.
-use Rattle.std.specs.Prelude.{◌≡◌, ◌⊎◌, ◌≤◌, ℕ, true, false, List, length, MatchResult, Option, Result, Vec}
+use Rattle.std.specs.Prelude.{◌≡◌, ◌≤◌, ℕ, true, false, List, length, MatchResult, Option, Some, Result, Vec}
 use Rattle.run_laws.specs.OneList.{AgreesWithTheList, list_of}
 use Rattle.kept_histories.specs.Keeps.{KeepsRun}
-use Rattle.explain.specs.Vocabulary.{Global, KeptTree, nothing_kept, ended, some_lacks_place, blocks_of, Call, Placed, Trace, Explains, TreeData, MountFault, IsFirstDamage, IsWellFormed, tree_in, version_in, Version, EventOf, Outside, Came, Event, HartsOf, FoundRoom, HasHistory, IsHistory, IsMounted, trace_in, WorldOf, any_climbs, any_full}
+use Rattle.explain.specs.Vocabulary.{Global, KeptTree, nothing_kept, ended, some_lacks_place, blocks_of, Call, Placed, Explains, MountFault, IsFirstDamage, IsWellFormed, tree_in, version_in, EventOf, Outside, Came, Event, HartsOf, FoundRoom, HasHistory, IsHistory, IsMounted, trace_in, WorldOf, any_climbs, any_full}
 use Rattle.image_tree.specs.declared.fault.MountFault.TheVariants as faults
-use Rattle.explain.specs.Keeps.{SawNoRoom, SawRoom, KnowsWhy}
+use Rattle.explain.specs.Keeps.{HandsOut, IsRefusedBy}
 use Rattle.explain.specs.declared.refused.ExplainRefused.{ExplainRefused}
 use Rattle.explain.specs.declared.refused.ExplainRefused.TheVariants as refused
 
@@ -31,6 +31,10 @@ pub record KeepsToTheEnd (image : List ℕ) (events : List Event) (r : RunOn ima
   pub kept : KeptTree
   pub keeps : KeepsRun blocks_of never r.world.sizes r.world.harts (nothing_kept (version_in (blocks_of image)) (tree_in (blocks_of image))) events r.outcomes r.new kept
   pub is : k ≡ ended (some_lacks_place r.new) kept
+
+-- .. if it was never refused memory
+abbrev pub HasKept : (image : List ℕ) (events : List Event) → RunOn image events → Option KeptTree → Type 0
+HasKept image events r o = (k : KeptTree) → o ≡ Some k → KeepsToTheEnd image events r k
 
 module _ (image : List ℕ) (events : List Event) (r : RunOn image events) where
   abbrev pub IsOneOf : List (EventOf Call Outside) → Type 0
@@ -61,10 +65,10 @@ pub record OwnsRun (image : List ℕ) (events : List Event) (list : List Placed)
   pub stops : (history : List (EventOf Call Outside)) → IsOneOf image events run history → (k : ℕ) → k ≤ length events
       → AgreesWithTheList blocks_of never (tree_in (blocks_of image)) run.world events run.outcomes history k
 
--- A step of such a run found no room: a reply says so, or it is one of a call that hasn't replied.
+-- A step of such a run found no room, also of a call that hasn't replied.
 pub record FindsNoRoom (image : List ℕ) (events : List Event) : Type 0 where
   pub run : RunOn image events
-  pub full : (any_full (trace_in events run.outcomes).calls ≡ true) ⊎ NeverFoundRoom image events run
+  pub full : NeverFoundRoom image events run
 
 -- Each step of such a run found room, and no reply says otherwise; and the path of a call that it started has the element "..".
 pub record HasClimbed (image : List ℕ) (events : List Event) : Type 0 where
@@ -86,24 +90,28 @@ IsRefusedSo image events (refused.Damaged d) = IsFirstDamage (blocks_of image) d
 IsRefusedSo image events refused.FullSeen = FindsNoRoom image events
 IsRefusedSo image events refused.Climbs = HasClimbed image events
 
--- Why there is no list that explains this trace from this tree. A reply in it found no room, or none explains it
--- though no path climbs; or the path of a call has the element ".."; or memory was refused.
-abbrev pub IsRefusedFor : Version → TreeData → Trace → ExplainRefused → Type 0
-IsRefusedFor version base t refused.NoMemory = Unit {0}
-IsRefusedFor version base t (refused.Damaged d) = ⊥
-IsRefusedFor version base t refused.FullSeen =
-    (any_full t.calls ≡ true) ⊎ ((any_climbs t.calls ≡ false) × ((list : List Placed) → Explains version base t list → ⊥))
-IsRefusedFor version base t refused.Climbs = (any_full t.calls ≡ false) × (any_climbs t.calls ≡ true)
+-- ---- of a run that was made and noted
 
--- Why a keeper's list isn't handed out: it knows of a step without room; or it knows of none, and no list explains the trace.
-abbrev pub IsRefusedBy : Version → Option KeptTree → TreeData → Trace → ExplainRefused → Type 0
-IsRefusedBy version o base t why =
-    (SawNoRoom o × (why ≡ refused.FullSeen)) ⊎ (SawRoom o × KnowsWhy o why × IsRefusedFor version base t why)
+-- the list of this very run
+pub record OwnsThis (image : List ℕ) (events : List Event) (r : RunOn image events) (list : List Placed) : Type 0 where
+  pub owns : OwnsRun image events list
+  pub this : owns.run ≡ r
 
--- a list that explains the trace from the tree, or why there is none
-abbrev pub IsFoundFor : Version → Option KeptTree → TreeData → Trace → Result (Vec Placed Global) ExplainRefused → Type 0
-IsFoundFor version o base t found =
-    MatchResult found (λ v. SawRoom o × Explains version base t v.items) (λ why. IsRefusedBy version o base t why)
+-- why there is none: in each history of this very run a step found no room; or each found room, and a path climbs
+abbrev pub IsRefusedOf : (image : List ℕ) (events : List Event) → RunOn image events → ExplainRefused → Type 0
+IsRefusedOf image events r refused.NoMemory = Unit {0}
+IsRefusedOf image events r (refused.Damaged d) = ⊥
+IsRefusedOf image events r refused.FullSeen = NeverFoundRoom image events r
+IsRefusedOf image events r refused.Climbs =
+    EachFoundRoom image events r × (any_full (trace_in events r.outcomes).calls ≡ false) × (any_climbs (trace_in events r.outcomes).calls ≡ true)
+
+abbrev pub IsToldOf : (image : List ℕ) (events : List Event) → RunOn image events → Result (Vec Placed Global) ExplainRefused → Type 0
+IsToldOf image events r told = MatchResult told (λ v. OwnsThis image events r v.items) (λ why. IsRefusedOf image events r why)
+
+-- the keeper's list, or why it isn't handed out
+abbrev pub IsHandedOut : Option KeptTree → List Event → List Came → Result (Vec Placed Global) ExplainRefused → Type 0
+IsHandedOut o events outcomes told =
+    MatchResult told (λ v. HandsOut o events outcomes v.items) (λ why. IsRefusedBy o events outcomes why)
 
 -- the refusal for a mount in memory that was refused
 abbrev pub refused_by : MountFault → ExplainRefused

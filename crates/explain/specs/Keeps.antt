@@ -1,7 +1,7 @@
 -- What a keeper has, and what of it is handed out.
 use Rattle.std.specs.Prelude.{◌≡◌, List, Option, Some, None, Bool, true, false}
 use Rattle.kept_histories.specs.Keeps.{KeepsEvent}
-use Rattle.explain.specs.Vocabulary.{Explains, Placed, Trace, TreeData, Heard, Came, Event, KeptTree, Version}
+use Rattle.explain.specs.Vocabulary.{Placed, Heard, Came, Event, KeptTree, any_climbs, trace_in}
 use Rattle.explain.specs.declared.refused.ExplainRefused.{ExplainRefused}
 use Rattle.explain.specs.declared.refused.ExplainRefused.TheVariants as refused
 
@@ -25,18 +25,20 @@ abbrev pub SawRoom : Option KeptTree → Type 0
 SawRoom None = Unit {0}
 SawRoom (Some k) = k.full ≡ false
 
--- a keeper to which memory was refused gives no other reason
-abbrev pub KnowsWhy : Option KeptTree → ExplainRefused → Type 0
-KnowsWhy None refused.NoMemory = Unit {0}
-KnowsWhy None (refused.Damaged d) = ⊥
-KnowsWhy None refused.FullSeen = ⊥
-KnowsWhy None refused.Climbs = ⊥
-KnowsWhy (Some k) why = Unit {0}
+-- Just what was kept is handed out: each step found room, and no path of a call that was started climbs.
+abbrev pub HandsOut : Option KeptTree → List Event → List Came → List Placed → Type 0
+HandsOut None events outcomes list = ⊥
+HandsOut (Some k) events outcomes list = (k.full ≡ false) × (any_climbs (trace_in events outcomes).calls ≡ false) × (list ≡ k.list)
 
--- if what was kept explains the trace, just that is handed out
-abbrev pub HandsOut : Version → Option KeptTree → TreeData → Trace → List Placed → Type 0
-HandsOut version None base t list = ⊥
-HandsOut version (Some k) base t list = Explains version base t k.list → list ≡ k.list
+-- Why a keeper's list isn't handed out: nothing was kept, for want of memory; or a step found no room; or each did,
+-- and a path climbs.
+abbrev pub IsRefusedBy : Option KeptTree → List Event → List Came → ExplainRefused → Type 0
+IsRefusedBy None events outcomes refused.NoMemory = Unit {0}
+IsRefusedBy (Some k) events outcomes refused.NoMemory = ⊥
+IsRefusedBy o events outcomes (refused.Damaged d) = ⊥
+IsRefusedBy o events outcomes refused.FullSeen = SawNoRoom o
+IsRefusedBy None events outcomes refused.Climbs = ⊥
+IsRefusedBy (Some k) events outcomes refused.Climbs = (k.full ≡ false) × (any_climbs (trace_in events outcomes).calls ≡ true)
 
 -- it has noted the event, or has nothing after it
 abbrev pub HasNoted : Option KeptTree → Event → Came → Option Heard → Option KeptTree → Type 0

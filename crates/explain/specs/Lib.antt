@@ -1,4 +1,5 @@
 pub mod Vocabulary
+pub mod Climbs
 pub mod Keeps
 pub mod Explained
 pub mod OneRun

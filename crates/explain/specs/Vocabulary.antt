@@ -22,3 +22,5 @@ pub use Rattle.fs_layout.specs.declared.superblock.Super.{Super}
 pub use Rattle.path_walk.specs.declared.asks.Heard.{Heard}
 pub use Rattle.tree_histories.specs.Keeping.{KeptTree, ended, nothing_kept}
 pub use Rattle.hart_core.specs.Starts.{fault_of}
+pub use Rattle.tree_histories.specs.Vocabulary.{call_climbs, climbs, dotdot}
+unfoldable pub use Rattle.tree_histories.specs.Vocabulary.{same_name}

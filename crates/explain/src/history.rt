@@ -1,39 +1,15 @@
 //! The history of a run.
-ghost use Rattle.std.specs.Prelude.{◌≡◌, false, IfOk, MatchResult};
-ghost use Rattle.std.specs.Option.{MatchOption};
-ghost use Rattle.explain.specs.Vocabulary.{any_climbs, trace_in, Explains};
-ghost use Rattle.explain.specs.Explained.{IsFoundFor, IsRefusedSo, OwnsRun};
-ghost use Rattle.explain.specs.Keeps.{HandsOut};
+ghost use Rattle.std.specs.Prelude.{◌≡◌, ℕ, List, MatchResult};
+ghost use Rattle.explain.specs.Explained.{HasKept, IsHandedOut, IsRefusedSo, IsToldOf, OwnsRun, RunOn};
 ghost use Rattle.explain.specs.OneRun.{AnyRunsAgree, ListsAreOfEachRun, RefusalsAreOfEachRun};
-ghost use Rattle.explain.specs.Played.{IsFound};
 
+use crate::climbs::any_climbs;
 use crate::keep::Keeper;
 use crate::play::{Played, play};
 use crate::refused::ExplainRefused;
-use hart_core::{Came, Event, trace};
-use image_versions::Version;
-use plain_tree::{NoMemory, Placed, Trace, Tree, check};
+use hart_core::{Came, Event};
+use plain_tree::Placed;
 use std::alloc::Global;
-use tree_histories::{any_climbs, any_full, find_history, hints_of, replays};
-
-// The list that was kept, if it explains the trace; else one that is sought, by its steps first. To make these once
-// more takes less time than `check`, which goes through the list for each call.
-fn kept_or_found(
-    alloc: Global,
-    version: Version,
-    base: &Tree,
-    trace: &Trace,
-    kept: Vec<Placed>,
-) -> Result<Option<Vec<Placed>>, NoMemory>
-    ensures found { IsFound version base.now trace.now result }
-    ensures kept { Explains version base.now trace.now kept.items → IfOk result (λ o. MatchOption o ⊥ (λ v. v.items ≡ kept.items)) }
-{
-    if replays(alloc, version, base, trace, &kept)? || check(alloc, version, base, trace, &kept)? {
-        return Ok(Some(kept));
-    }
-    let hints = hints_of(alloc, &kept)?;
-    find_history(alloc, version, base, trace, &hints)
-}
 
 /// Mounts a copy of the image in memory, runs these events, and hands out a list of tree steps that explains what
 /// they showed of calls. It has event number, call, step and answer of each. Without events the list is empty.
@@ -47,58 +23,38 @@ fn kept_or_found(
 /// The events run beside a tree, on which each operation makes its move as it acts: the list is made of these moves.
 /// Each step is there with its answer at the event at which it acted. The failing steps of walks are at the event of
 /// the unlink that removed their directory. It is the run's own list, of which the disk holds a beginning wherever
-/// the run stops. That takes as long as the run and the steps on the tree, twice.
+/// the run stops. That takes as long as the run and the steps on the tree.
 pub fn explain(alloc: Global, image: &[u8], events: &[Event]) -> Result<Vec<Placed>, ExplainRefused>
     ensures { MatchResult result (λ v. OwnsRun image.now events.now v.items) (λ e. IsRefusedSo image.now events.now e) }
 {
-    let Played {
-        version,
-        base,
-        outcomes,
-        keeper,
-    } = play(alloc, image, events)?;
-    explain_noted(alloc, version, &base, events, &outcomes, keeper)
+    let Played { outcomes, keeper } = play(alloc, image, events)?;
+    explain_noted(events, &outcomes, keeper)
 }
 
-/// The same of events that were noted as they were made of a mounted world, with the outcome of each; the world isn't
-/// run again. `base` is the tree of the image that was mounted, one of this version, and the keeper must have noted
-/// each event, and the end.
+/// The same of events that were noted as they were made of a mounted world, with the outcome of each. The keeper's
+/// list is handed out as it is; nothing is run or searched again.
 ///
-/// Whatever is passed, a list that is handed out explains these events and outcomes from this tree: it is the
-/// keeper's, if that explains them. With another keeper it may take long. 71 also if the keeper knows of a step
-/// without room.
+/// It explains these events if the keeper noted each of them, from the tree of the image that was mounted, and the
+/// end (`KeepsToTheEnd`). Of another keeper it is only what that one has kept.
 pub fn explain_noted(
-    alloc: Global,
-    version: Version,
-    base: &Tree,
     events: &[Event],
     outcomes: &[Came],
     keeper: Keeper,
 ) -> Result<Vec<Placed>, ExplainRefused>
-    ensures found { IsFoundFor version keeper base.now (trace_in events.now outcomes.now) result }
-    ensures kept { IfOk result (λ v. HandsOut version keeper base.now (trace_in events.now outcomes.now) v.items) }
-    ensures flat { IfOk result (λ _. any_climbs (trace_in events.now outcomes.now).calls ≡ false) }
+    ensures kept { IsHandedOut keeper events.now outcomes.now result }
+    ensures owns { (image : List ℕ) (run : RunOn image events.now) → run.outcomes ≡ outcomes.now → HasKept image events.now run keeper
+        → IsToldOf image events.now run result }
 {
     if keeper.is_full() {
         return Err(ExplainRefused::FullSeen);
     }
-    let Ok(kept) = keeper.into_list() else {
+    let Ok(list) = keeper.into_list() else {
         return Err(ExplainRefused::NoMemory);
     };
-    let Ok(trace) = trace(alloc, events, outcomes) else {
-        return Err(ExplainRefused::NoMemory);
-    };
-    if any_full(trace.calls.as_slice()) {
-        return Err(ExplainRefused::FullSeen);
-    }
-    if any_climbs(trace.calls.as_slice()) {
+    if any_climbs(events, outcomes) {
         return Err(ExplainRefused::Climbs);
     }
-    match kept_or_found(alloc, version, base, &trace, kept) {
-        Ok(Some(list)) => Ok(list),
-        Ok(None) => Err(ExplainRefused::FullSeen),
-        Err(NoMemory) => Err(ExplainRefused::NoMemory),
-    }
+    Ok(list)
 }
 
 /// A law, for a reader; nothing is done. The image and the events fix the run in memory: any two such runs have the

@@ -1,6 +1,6 @@
 //! The tree kept beside a run.
 ghost use Rattle.std.specs.Option.{option_map};
-ghost use Rattle.std.specs.Prelude.{◌≡◌, false, IfOk, IsTrue, None, Some};
+ghost use Rattle.std.specs.Prelude.{◌≡◌, false, IfOk, IsTrue, MatchResult, None, Some};
 ghost use Rattle.explain.specs.Keeps.{HasNoted, IsListOf, SawNoRoom, SawRoom};
 ghost use Rattle.kept_histories.specs.Keeps.{KeepsEvent, KeepsOutcome, Starts};
 ghost use Rattle.explain.specs.Telling.{TellsKeeper};
@@ -78,7 +78,7 @@ impl Keeper {
 
     // The steps so far. An error is that memory was refused once.
     pub(crate) fn into_list(self) -> Result<Vec<Placed>, NoMemory>
-        ensures { IfOk result (λ v. IsListOf self v.items) }
+        ensures { MatchResult result (λ v. IsListOf self v.items) (λ _. self ≡ None) }
     {
         if self.is_short {
             return Err(NoMemory);

@@ -3,6 +3,7 @@
 //! The events are run to that end; or they were noted as they were made.
 #![tactic(auto)]
 
+mod climbs;
 mod history;
 mod keep;
 mod play;

@@ -13,11 +13,9 @@ use image_versions::Version;
 use plain_tree::Tree;
 use std::alloc::{AllocError, Global};
 
-/// The version of an image, its tree, the outcomes of events on it, and what was kept beside them.
+/// The outcomes of events on an image, and what was kept beside them.
 #[derive(Drop)]
 pub(crate) struct Played {
-    pub(crate) version: Version,
-    pub(crate) base: Tree,
     pub(crate) outcomes: Vec<Came>,
     pub(crate) keeper: Keeper,
 }
@@ -98,12 +96,7 @@ pub(crate) fn play(alloc: Global, image: &[u8], events: &[Event]) -> Result<Play
             let mut keeper = telling.keeper;
             keeper.ends(world.lacks_place());
             let _disk = world.unmount();
-            Ok(Played {
-                version,
-                base,
-                outcomes,
-                keeper,
-            })
+            Ok(Played { outcomes, keeper })
         }
         Err((world, _)) => {
             let _disk = world.unmount();

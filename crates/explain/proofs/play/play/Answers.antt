@@ -15,8 +15,6 @@ returns-in-Ok-run_noted c =
         history = c.in-Ok-run_noted.ensures.history;
       };
       outcomes = refl;
-      version = c.in_ok-version.ensures.0;
-      base = c.in_ok-version.ensures.1;
       keeps = λ k is.
           let before : Option KeptTree = c.run_noted.new.observer.keeper in
           let told = was_told before k (some_lacks_place run.world.harts) (sym (c.ends.ensures ∙ ap (λ (b : Bool). option_map (ended b) before) c.lacks_place.ensures) ∙ is) in
