@@ -1,8 +1,9 @@
 -- If a text shows the history of a run in one way, it shows it in another, of a run that was made and kept: and so on
 -- an image.
 use Rattle.std.specs.Prelude.{◌⊎◌, ◌^◌}
-use Rattle.console.proofs.Vocabulary.{◌≡◌, ◌<◌, ℕ, Bool, true, false, List, length, Option, Some, None, Result, Ok, Err, refl, sym, ap, ◌∙◌, subst, inl, inr, blocks_of, tree_in, version_in, Version, TreeData, KeptTree, nothing_kept, HasKept, RunOn, StartsOn, never, never_of, owned, refused_by_run, Mode, ConsoleFault, IfTold, IsPrintedAndNoted, HistoryBeside, TellsHistory, WhereSet, HasNoList, IsFound, IsOwn, IsUnfound, history_from, history_of, CourseOf, KeptRun, NotesOf, all_noted, no_notes, none_kept, run_in, PromptsReader, EndsSo, PrintsAll, RunsReader, RunsScript, EventOfCall, SessionOf, with_beside, known_at, some_lacks_place, was_told}
+use Rattle.console.proofs.Vocabulary.{◌≡◌, ◌<◌, ℕ, Bool, true, false, List, length, Option, Some, None, Result, Ok, Err, refl, sym, ap, ◌∙◌, subst, inl, inr, blocks_of, tree_in, version_in, Version, TreeData, KeptTree, nothing_kept, RunOn, StartsOn, never, owns_this, refused_of, so_refused, kept_none_full, kept_explains, Super, Placed, Explains, any_full, any_climbs, trace_in, ended, HandsOutKept, ExplainsRun, IsAsMounted, history_at, Mode, ConsoleFault, IfTold, IsPrintedAndNoted, HistoryBeside, TellsHistory, WhereSet, HasNoList, IsFound, IsOwn, IsUnfound, history_from, history_of, CourseOf, KeptRun, NotesOf, all_noted, no_notes, none_kept, run_in, PromptsReader, EndsSo, PrintsAll, RunsReader, RunsScript, EventOfCall, SessionOf, with_beside, known_at, some_lacks_place, was_told}
 use Rattle.console.specs.declared.fault.ConsoleFault.TheVariants as faults
+use Rattle.explain.specs.Explained.{HasKept}
 use Rattle.console.proofs.Chaining.{Chain, lines_chain, prompts_all_chain}
 use Rattle.console.proofs.Noting.{IsKept, IsRun, events_kept, kept_first, kept_run}
 
@@ -85,6 +86,44 @@ module _ {D : Type 0} (contents : D → List (List ℕ)) (failures : D → ℕ) 
         end = ends_again prompts.first prompts.kept runs.events runs.text t prompts.notes prompts.ends result out prompts.between out' (prompts_all_chain contents failures help 1 prompts.answers.lines _ runs.events runs.text prompts.ends _ runs.does) runs.told prompts.end;
       })
 
+-- ---- what was kept explains the run
+
+-- a run that began with this file system, and was kept from the tree on
+module _ {D : Type 0} (contents : D → List (List ℕ)) (failures : D → ℕ) (base : TreeData) (s : SessionOf D) (first kept : Option KeptTree) (run : KeptRun) (t : SessionOf D)
+    (made : IsRun contents failures s.world.sizes s.world.harts first run t.world.harts kept) (from : first ≡ Some (nothing_kept s.world.sizes.version base)) (few : length run.events < 2 ^ 64) where
+  module _ (mounted : IsAsMounted contents failures s base) where
+    -- it was kept on the version that the device's image has
+    version_is : version_in (contents mounted.device) ≡ s.world.sizes.version
+    version_is = sym (ap (λ (z : Super). z.version) mounted.mounted.sizes)
+
+    of_kept : (k : KeptTree) → known_at t kept ≡ Some k → k.full ≡ false
+        → (any_full (trace_in run.events run.outcomes).calls ≡ false)
+        × (any_climbs (trace_in run.events run.outcomes).calls ≡ false → Explains s.world.sizes.version base (trace_in run.events run.outcomes) k.list)
+    of_kept k same full =
+        let told = was_told kept k (some_lacks_place t.world.harts) same in
+        let keeps = made.1 (nothing_kept s.world.sizes.version (tree_in (contents mounted.device))) told.kept (from ∙ ap (λ (b : TreeData). Some (nothing_kept s.world.sizes.version b)) mounted.base_is) told.was in
+        let room : (ended (some_lacks_place t.world.harts) told.kept).full ≡ false = sym (ap (λ (z : KeptTree). z.full) told.is) ∙ full in
+        (
+          kept_none_full contents failures s.world mounted.device mounted.mounted run.events run.outcomes t.world.harts few told.kept keeps made.0 room,
+          λ flat.
+              subst (λ (p : Version × TreeData × KeptTree). Explains p.0 p.1 (trace_in run.events run.outcomes) p.2.list) (λ i. (version_is i, sym mounted.base_is i, sym told.is i))
+              (kept_explains contents failures s.world mounted.device mounted.mounted run.events run.outcomes t.world.harts few told.kept keeps made.0 room flat),
+        )
+
+    explains_run : ExplainsRun s.world.sizes.version base (known_at t kept) run
+    explains_run = record { room = λ k is full. (of_kept k is full).0; explains = λ list hands. by (known_at t kept) refl list hands }
+      where
+        by : (o : Option KeptTree) → known_at t kept ≡ o → (list : List Placed) → HandsOutKept o run.events run.outcomes list
+            → Explains s.world.sizes.version base (trace_in run.events run.outcomes) list
+        by None is list hands = absurd hands
+        by (Some k) is list hands =
+            subst (λ (l : List Placed). Explains s.world.sizes.version base (trace_in run.events run.outcomes) l) (sym hands.2) ((of_kept k is hands.0).1 hands.1)
+
+pub at_is : {D : Type 0} (contents : D → List (List ℕ)) (failures : D → ℕ) (base : TreeData) (s : SessionOf D) (first kept : Option KeptTree) (run : KeptRun) (t : SessionOf D)
+    → IsRun contents failures s.world.sizes s.world.harts first run t.world.harts kept → (text : List ℕ)
+    → history_from s.world.sizes.version base first (known_at t kept) run text → history_at contents failures s base first (known_at t kept) run text
+at_is contents failures base s first kept run t made text told = (told, λ mounted. explains_run contents failures base s first kept run t made told.0 told.1.0 mounted)
+
 -- ---- on an image
 
 module _ (image : List ℕ) (base : TreeData) (s : SessionOf (List ℕ)) (starts : StartsOn image s.world) (is : base ≡ tree_in (blocks_of image)) (first kept : Option KeptTree) (run : KeptRun) (t : SessionOf (List ℕ))
@@ -93,7 +132,7 @@ module _ (image : List ℕ) (base : TreeData) (s : SessionOf (List ℕ)) (starts
   made_on = record { world = s.world; outcomes = run.outcomes; new = t.world.harts; starts = starts; history = made.0 }
 
   -- what is known beside it at its end was kept of this run
-  known_on : HasKept image run.events few made_on (known_at t kept)
+  known_on : HasKept image run.events made_on (known_at t kept)
   known_on k same =
       let told = was_told kept k (some_lacks_place t.world.harts) same in
       record {
@@ -102,31 +141,22 @@ module _ (image : List ℕ) (base : TreeData) (s : SessionOf (List ℕ)) (starts
         is = told.is;
       }
 
-  own_on : (o : Option KeptTree) → HasKept image run.events few made_on o → (text : List ℕ) → IsFound (version_in (blocks_of image)) (tree_in (blocks_of image)) o run text → IsOwn image run text
-  own_on None keeps text found = absurd found.hands
-  own_on (Some k) keeps text found =
-      let own = owned image run.events few made_on k (keeps k refl) found.list found.explains found.flat found.hands found.room in
-      record { list = found.list; owns = own.0; outcomes = ap (λ (r : RunOn image run.events). r.outcomes) own.1; text_is = found.text_is }
-
-  none_on : (o : Option KeptTree) → HasKept image run.events few made_on o → (text : List ℕ) → IsUnfound (version_in (blocks_of image)) (tree_in (blocks_of image)) o run text → HasNoList image run text
-  none_on o keeps text none =
-      record {
+  told_on : (text : List ℕ) → IsFound (known_at t kept) run text ⊎ IsUnfound (known_at t kept) run text → IsOwn image run text ⊎ HasNoList image run text
+  told_on text (inl found) =
+      let own = owns_this image run.events few made_on (known_at t kept) known_on found.list found.hands in
+      inl (record { list = found.list; owns = own.owns; outcomes = ap (λ (r : RunOn image run.events). r.outcomes) own.this; text_is = found.text_is })
+  told_on text (inr none) =
+      let of = refused_of image run.events few made_on (known_at t kept) known_on none.why none.refused in
+      inr (record {
         why = none.why;
         has_line = none.has_line;
-        refused_so = refused_by_run image run.events few made_on o keeps none.why none.refused;
-        refused = elim none.refused [
-          | inl saw ↦ inr (saw.1, record { made = made_on; outcomes = refl; never = never_of image run.events few made_on o keeps saw.0 })
-          | inr so ↦ inl so.2
-        ];
+        refused_so = so_refused image run.events made_on none.why of;
+        made = made_on;
+        outcomes = refl;
+        refused = of;
         text_is = none.text_is;
-      }
-
-  told_on : (text : List ℕ) → IsFound (version_in (blocks_of image)) (tree_in (blocks_of image)) (known_at t kept) run text ⊎ IsUnfound (version_in (blocks_of image)) (tree_in (blocks_of image)) (known_at t kept) run text → IsOwn image run text ⊎ HasNoList image run text
-  told_on text (inl found) = inl (own_on (known_at t kept) known_on text found)
-  told_on text (inr none) = inr (none_on (known_at t kept) known_on text none)
+      })
 
 pub history_is : (image : List ℕ) (base : TreeData) (s : SessionOf (List ℕ)) → StartsOn image s.world → base ≡ tree_in (blocks_of image) → (first kept : Option KeptTree) (run : KeptRun) (t : SessionOf (List ℕ)) → IsRun blocks_of never s.world.sizes s.world.harts first run t.world.harts kept
-    → (text : List ℕ) → history_from s.world.sizes.version base first (known_at t kept) run text → history_of image first (known_at t kept) run text
-history_is image base s starts is first kept run t made text told =
-    told_on image base s starts is first kept run t made told.0 told.1 text
-    (subst (λ (p : Version × TreeData). IsFound p.0 p.1 (known_at t kept) run text ⊎ IsUnfound p.0 p.1 (known_at t kept) run text) (λ i. ((starts.mounted.sizes i).version, is i)) told.2)
+    → (text : List ℕ) → history_at blocks_of never s base first (known_at t kept) run text → history_of image first (known_at t kept) run text
+history_is image base s starts is first kept run t made text told = told_on image base s starts is first kept run t made told.0.0 told.0.1.0 text told.0.1.1

@@ -1,5 +1,5 @@
 -- A disk in memory is mounted, and what is run on it; or it isn't mounted.
-use Rattle.console.proofs.Vocabulary.{◌≡◌, ℕ, arith, Bool, true, false, List, [], Option, None, Result, Err, replicate, refl, sym, ap, ◌∙◌, subst, inl, inr, Vec, Global, blocks_of, sizes_of, buffer_count, hart_count, unused_from, IsPlaced, IsWellFormed, JudgesFault, fault_count_of, tree_in, MountFault, TreeData, IsSettled, HartsOf, never, KeptTree, Mode, ConsoleFault, of_mount, WhereSet, history_from, history_of, JudgesImage, RefusesDisk, bytes_for, KeptRun, PromptsImage, PromptsOn, PromptsReader, RunsReader, HandsOut, IsMountedOn, IsUntaken, RunsImage, RunsOn, TakesNoImage, SessionOf, known_at}
+use Rattle.console.proofs.Vocabulary.{◌≡◌, ℕ, arith, Bool, true, false, List, [], Option, None, Result, Err, replicate, refl, sym, ap, ◌∙◌, subst, inl, inr, Vec, Global, blocks_of, sizes_of, buffer_count, hart_count, unused_from, IsPlaced, IsWellFormed, JudgesFault, fault_count_of, tree_in, MountFault, TreeData, IsSettled, HartsOf, never, KeptTree, Mode, ConsoleFault, of_mount, WhereSet, history_at, history_of, JudgesImage, RefusesDisk, bytes_for, KeptRun, PromptsImage, PromptsOn, PromptsReader, RunsReader, HandsOut, IsMountedOn, IsUntaken, RunsImage, RunsOn, TakesNoImage, SessionOf, known_at}
 use Rattle.console.proofs.Vocabulary.{Version, version_in}
 use Rattle.image_tree.specs.Damage.{JudgesFault as JudgesFaultAt}
 use Rattle.group_log.specs.declared.phase.Phase.TheVariants.{Open}
@@ -97,11 +97,11 @@ unset true this other is holds = absurd (cc is)
 unset false this other is holds = holds
 
 module _ (mode : Mode) (bytes : List ℕ) (base : TreeData) (first last : SessionOf (List ℕ)) (on : IsMountedOn mode.explain bytes base first) where
-  tells : mode.explain ≡ true → (begun kept : Option KeptTree) (run : KeptRun) (t : SessionOf (List ℕ)) → IsRun blocks_of never first.world.sizes first.world.harts begun run t.world.harts kept → (text : List ℕ) → history_from first.world.sizes.version base begun (known_at t kept) run text
+  tells : mode.explain ≡ true → (begun kept : Option KeptTree) (run : KeptRun) (t : SessionOf (List ℕ)) → IsRun blocks_of never first.world.sizes first.world.harts begun run t.world.harts kept → (text : List ℕ) → history_at blocks_of never first base begun (known_at t kept) run text
       → history_of bytes begun (known_at t kept) run text
   tells is = history_is bytes base first on.starts (wanted_base mode.explain base (tree_in (blocks_of bytes)) is on.base_is)
 
-  pub ran_on : (script : Option (List ℕ)) (ended : Result (Unit {0}) ConsoleFault) (result : Result (List ℕ) ConsoleFault) (out out' : Option (List ℕ)) → RunsReader blocks_of never mode (history_from first.world.sizes.version base) first script ended last out out'
+  pub ran_on : (script : Option (List ℕ)) (ended : Result (Unit {0}) ConsoleFault) (result : Result (List ℕ) ConsoleFault) (out out' : Option (List ℕ)) → RunsReader blocks_of never mode (history_at blocks_of never first base) first script ended last out out'
       → HandsOut last.world.harts.core.log.cache.device ended result → RunsOn blocks_of never mode bytes bytes script result out out'
   ran_on script ended result out out' runs hands = record {
     first = first;
@@ -109,11 +109,11 @@ module _ (mode : Mode) (bytes : List ℕ) (base : TreeData) (first last : Sessio
     ended = ended;
     rests = on.starts.mounted.rests;
     idle = on.idle;
-    runs = reader_again blocks_of never mode (history_from first.world.sizes.version base) (history_of bytes) first tells script ended last out out' runs;
+    runs = reader_again blocks_of never mode (history_at blocks_of never first base) (history_of bytes) first tells script ended last out out' runs;
     hands = hands;
   }
 
-  pub prompted_on : (help : List ℕ) (typed : Option (List ℕ)) (ended : Result (Unit {0}) ConsoleFault) (result : Result (List ℕ) ConsoleFault) (out out' : Option (List ℕ)) → PromptsReader blocks_of never help mode (history_from first.world.sizes.version base) first typed ended last out out'
+  pub prompted_on : (help : List ℕ) (typed : Option (List ℕ)) (ended : Result (Unit {0}) ConsoleFault) (result : Result (List ℕ) ConsoleFault) (out out' : Option (List ℕ)) → PromptsReader blocks_of never help mode (history_at blocks_of never first base) first typed ended last out out'
       → HandsOut last.world.harts.core.log.cache.device ended result → PromptsOn blocks_of never help mode bytes bytes typed result out out'
   prompted_on help typed ended result out out' prompts hands = record {
     first = first;
@@ -121,7 +121,7 @@ module _ (mode : Mode) (bytes : List ℕ) (base : TreeData) (first last : Sessio
     ended = ended;
     rests = on.starts.mounted.rests;
     idle = on.idle;
-    runs = prompts_again blocks_of never mode (history_from first.world.sizes.version base) (history_of bytes) first tells help typed ended last out out' prompts;
+    runs = prompts_again blocks_of never mode (history_at blocks_of never first base) (history_of bytes) first tells help typed ended last out out' prompts;
     hands = hands;
   }
 

@@ -1,5 +1,5 @@
 -- A script that was run, and why it had no end.
-use Rattle.console.proofs.Vocabulary.{◌≡◌, ℕ, ◌<◌, min, arith, List, [], length, take, Option, Some, None, option_map, Result, Ok, Err, refl, ap, sym, ◌∙◌, subst, inl, inr, take_all, length-take, IfSome, Stop, ConsoleFault, Mode, Runs, lines, state, History, HistoryBeside, CourseOf, FailsTo, IsMemory, script_course, NotesOf, no_notes, QueuedCalls, EndsOn, EndsSo, FailsUnread, PrintsAll, RunsCourse, RunsReader, RunsScript, or_stopped, KeptTree, SessionOf, with_beside, known_at}
+use Rattle.console.proofs.Vocabulary.{◌≡◌, ℕ, Bool, true, false, TellsHistory, WhereSet, KeptRun, run_in, ◌<◌, min, arith, List, [], length, take, Option, Some, None, option_map, Result, Ok, Err, refl, ap, sym, ◌∙◌, subst, inl, inr, take_all, length-take, IfSome, Stop, ConsoleFault, Mode, Runs, lines, state, History, HistoryBeside, CourseOf, FailsTo, IsMemory, script_course, NotesOf, no_notes, QueuedCalls, EndsOn, EndsSo, FailsUnread, PrintsAll, RunsCourse, RunsReader, RunsScript, or_stopped, KeptTree, SessionOf, with_beside, known_at}
 use Rattle.console.specs.declared.fault.ConsoleFault.TheVariants as faults
 
 any_text : (script : Option (List ℕ)) → (text : List ℕ) × IfSome script (λ bytes. text ≡ bytes)
@@ -17,6 +17,30 @@ whole_text (Some bytes) limit items is few =
 pub stopped_so : (mode : Mode) (history : History) (notes : NotesOf) (ended : Result (Unit {0}) ConsoleFault) (stop : Stop) (told result : Result (Unit {0}) ConsoleFault) (out out' : Option (List ℕ)) → ended ≡ Err (faults.Stopped stop)
     → PrintsAll mode history notes out told out' → result ≡ or_stopped stop told → EndsSo mode history notes ended out result out'
 stopped_so mode history notes ended stop told result out out' was printed is = subst (λ r. EndsSo mode history notes r out result out') (sym was) (told, printed, is)
+
+-- ---- a history is another one
+
+module _ (mode : Mode) (one other : History) (so : (run : KeptRun) (text : List ℕ) → one run text → other run text) where
+  told_as : (run : KeptRun) (result : Result (Unit {0}) ConsoleFault) (out out' : Option (List ℕ)) → TellsHistory one run result out out' → TellsHistory other run result out out'
+  told_as run result out out' (inl told) = inl (record { text = told.text; is_history = so run told.text told.is_history; ends = told.ends; printed = told.printed })
+  told_as run result out out' (inr untold) = inr untold
+
+  wanted_as : (b : Bool) (run : KeptRun) (result : Result (Unit {0}) ConsoleFault) (out out' : Option (List ℕ)) (Else : Type 0) → WhereSet b (TellsHistory one run result out out') Else → WhereSet b (TellsHistory other run result out out') Else
+  wanted_as true run result out out' Else told = told_as run result out out' told
+  wanted_as false run result out out' Else told = told
+
+  printed_as : (notes : NotesOf) (out : Option (List ℕ)) (result : Result (Unit {0}) ConsoleFault) (out' : Option (List ℕ)) → PrintsAll mode one notes out result out' → PrintsAll mode other notes out result out'
+  printed_as notes out result out' (inl printed) = inl (printed.0, printed.1, wanted_as mode.explain (run_in notes.kept) result printed.0 out' ((result ≡ Ok tt) × (out' ≡ printed.0)) printed.2)
+  printed_as notes out result out' (inr unwritten) = inr unwritten
+
+  pub ends_as : (notes : NotesOf) (ends result : Result (Unit {0}) ConsoleFault) (out out' : Option (List ℕ)) → EndsSo mode one notes ends out result out' → EndsSo mode other notes ends out result out'
+  ends_as notes (Ok u) result out out' printed = printed_as notes out result out' printed
+  ends_as notes (Err (faults.Stopped stop)) result out out' printed = (printed.0, printed_as notes out printed.0 out' printed.1, printed.2)
+  ends_as notes (Err faults.Memory) result out out' is = is
+  ends_as notes (Err (faults.Write e)) result out out' is = is
+  ends_as notes (Err (faults.Image f)) result out out' is = is
+  ends_as notes (Err (faults.Read e)) result out out' is = is
+  ends_as notes (Err (faults.Line n why)) result out out' is = is
 
 module _ {D : Type 0} (contents : D → List (List ℕ)) (failures : D → ℕ) where
   pub no_memory : (mode : Mode) (history : HistoryBeside) (s : SessionOf D) (course : Result CourseOf ℕ) (out : Option (List ℕ)) → RunsScript contents failures mode history s course (Err faults.Memory) s out out

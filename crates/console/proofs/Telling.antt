@@ -1,6 +1,6 @@
 -- A history is printed, or why there is none.
 use Rattle.std.specs.Prelude.{◌^◌}
-use Rattle.console.proofs.Vocabulary.{◌≡◌, ◌<◌, ℕ, false, List, length, Option, Result, Ok, Err, refl, subst, inl, inr, OnOk, Appends, Came, Event, Trace, trace_in, any_climbs, Version, KeptTree, HandsOutKept, SawRoom, Placed, Explains, TreeData, OwnsRun, IsRefusedBy, IsRefusedSo, ExplainRefused, ConsoleFault, IsWritten, HasLine, History, TellsHistory, TellsWhy, entries_text, history_kept, history_on, why_line, KeptRun}
+use Rattle.console.proofs.Vocabulary.{◌≡◌, ◌<◌, ℕ, List, length, Option, Result, Ok, Err, refl, subst, inl, inr, OnOk, Appends, Came, Event, KeptTree, HandsOutKept, Placed, OwnsRun, IsRefusedBy, IsRefusedSo, ExplainRefused, ConsoleFault, IsWritten, HasLine, History, TellsHistory, TellsWhy, entries_text, history_kept, history_on, why_line, KeptRun}
 use Rattle.explain.specs.declared.refused.ExplainRefused.TheVariants as refused
 use Rattle.console.specs.declared.fault.ConsoleFault.TheVariants as faults
 
@@ -42,37 +42,19 @@ list_told history run list (Err (faults.Read e)) out out' explains written lines
 list_told history run list (Err (faults.Line n reason)) out out' explains written lines = absurd written
 list_told history run list (Err (faults.Stopped stop)) out out' explains written lines = absurd written
 
--- ---- from a tree on, of events and outcomes that are the run's, and of what is kept beside them
+-- ---- of events and outcomes that are the run's, and of what is kept beside them
 
-module _ (version : Version) (base : TreeData) (kept : Option KeptTree) (run : KeptRun) (events : List Event) (outcomes : List Came) (few : length events < 2 ^ 64) (these : events ≡ run.events) (those : outcomes ≡ run.outcomes) where
+module _ (kept : Option KeptTree) (run : KeptRun) (events : List Event) (outcomes : List Came) (few : length events < 2 ^ 64) (these : events ≡ run.events) (those : outcomes ≡ run.outcomes) where
   these_few : length run.events < 2 ^ 64
   these_few = subst (λ (es : List Event). length es < 2 ^ 64) these few
 
-  -- what is said of these events and outcomes is said of the run's
-  of_run : (P : Trace → Type 0) → P (trace_in events outcomes) → P (trace_in run.events run.outcomes)
-  of_run P x = subst P (λ i. trace_in (these i) (those i)) x
+  pub found : (list shown : List Placed) → list ≡ shown → HandsOutKept kept events outcomes list → history_kept kept run (entries_text shown)
+  found list shown same hands =
+      (these_few, inl (record { list = shown; hands = subst (λ (p : List Event × List Came × List Placed). HandsOutKept kept p.0 p.1 p.2) (λ i. (these i, those i, same i)) hands; text_is = refl }))
 
-  pub found : (list shown : List Placed) → list ≡ shown → Explains version base (trace_in events outcomes) list → any_climbs (trace_in events outcomes).calls ≡ false → HandsOutKept version kept base (trace_in events outcomes) list → SawRoom kept
-      → history_kept version base kept run (entries_text shown)
-  found list shown same explains flat hands room = (
-    refl,
-    these_few,
-    inl (record {
-      list = shown;
-      explains = subst (λ (l : List Placed). Explains version base (trace_in run.events run.outcomes) l) same (of_run (λ t. Explains version base t list) explains);
-      flat = of_run (λ t. any_climbs t.calls ≡ false) flat;
-      hands = subst (λ (l : List Placed). HandsOutKept version kept base (trace_in run.events run.outcomes) l) same (of_run (λ t. HandsOutKept version kept base t list) hands);
-      room = room;
-      text_is = refl;
-    }),
-  )
-
-  pub unfound : (why : ExplainRefused) → IsRefusedBy version kept base (trace_in events outcomes) why → HasLine why → history_kept version base kept run (why_line why)
-  unfound why so line = (
-    refl,
-    these_few,
-    inr (record { why = why; has_line = line; refused = of_run (λ t. IsRefusedBy version kept base t why) so; text_is = refl }),
-  )
+  pub unfound : (why : ExplainRefused) → IsRefusedBy kept events outcomes why → HasLine why → history_kept kept run (why_line why)
+  unfound why so line =
+      (these_few, inr (record { why = why; has_line = line; refused = subst (λ (p : List Event × List Came). IsRefusedBy kept p.0 p.1 why) (λ i. (these i, those i)) so; text_is = refl }))
 
 -- ---- on an image, of events that are the run's
 

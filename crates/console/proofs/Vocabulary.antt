@@ -3,7 +3,7 @@ pub use Rattle.hart_core.proofs.Vocabulary.{Answers, Began, Begins, Bool, Code, 
 unfoldable pub use Rattle.hart_core.proofs.Vocabulary.{sizes_of, unused_from}
 pub use Rattle.fs_machine.proofs.Vocabulary.{CheckFile, Claim, Close, Commit, Directory, Double, Down, Err, Fails, Freed, Get, GiveDescriptor, GuardState, Held, IfSome, Join, JoinToWrite, Leave, Lock, LockFile, LockOpen, Number, Ok, OnOk, Put, Read, Reply, Result, SeatState, SetDirectory, SlotState, State, TablesState, TakeDescriptor, TakePlace, Unlock, Up, Walked, claim_first, claims, commit_if, cond, got_by, in_log, in_tables, join_if, join_unless, join_waits, joins, kind_of, limit_of, lock_open, place_named, place_of, read_block, turn_is_out, with_open, write_log}
 unfoldable pub use Rattle.fs_machine.proofs.Vocabulary.{exec, get_of, lock_of}
-pub use Rattle.console.specs.Vocabulary.{AreHarts, Appends, Asked, ExplainRefused, Global, HandsOutKept, HasNoted, Help, IsRefusedBy, IsRefusedFor, IsRefusedSo, KeptTree, Mode, NeverFoundRoom, NotesEvent, OwnsRun, SawRoom, any_climbs, heard_by, heard_in, nothing_kept, Nothing, Quit, Run, StartsOn, Version, version_in, Stop, asked_in, entry_line, line_said, numbered, said_of, ended, some_lacks_place}
+pub use Rattle.console.specs.Vocabulary.{AreHarts, Appends, Asked, ExplainRefused, Global, HandsOutKept, HasNoted, Help, IsRefusedBy, IsRefusedSo, KeptTree, Mode, NotesEvent, OwnsRun, any_climbs, any_full, heard_by, heard_in, nothing_kept, Nothing, Quit, Run, StartsOn, Version, version_in, Stop, asked_in, entry_line, line_said, numbered, said_of, ended, some_lacks_place}
 unfoldable pub use Rattle.console.specs.Vocabulary.{blocks_of, typed_lines}
 pub use Rattle.image_tree.proofs.Vocabulary.{Vec, drop, eqb, get_or-map}
 pub use Rattle.script.proofs.Vocabulary.{All, End, Line, Upto, at_drop_all, at_drop_more, codes, length-drop}
@@ -17,7 +17,7 @@ pub use Rattle.console.specs.Notes.{KeptRun, NotesOf, copy_for, no_notes, none_k
 unfoldable pub use Rattle.console.specs.Notes.{all_noted}
 pub use Rattle.console.specs.Behaviours.{Behaviour, GoesOn, IfTold, IsOrMemory, IsWritten, Runs, IsPrintedAndNoted, in_case}
 unfoldable pub use Rattle.console.specs.Behaviours.{followed_by, gives, prints, takes_memory}
-pub use Rattle.console.specs.Histories.{HasLine, HasNoList, History, HistoryBeside, IsFound, IsOwn, IsUnfound, IsUntold, NeverHadRoom, TellsHistory, TellsWhy, WhereSet, history_from, history_kept, history_of, history_on, why_line}
+pub use Rattle.console.specs.Histories.{ExplainsRun, HasLine, HasNoList, History, HistoryBeside, IsAsMounted, IsFound, IsOwn, IsUnfound, IsUntold, TellsHistory, TellsWhy, WhereSet, history_at, history_from, history_kept, history_of, history_on, why_line}
 unfoldable pub use Rattle.console.specs.Histories.{entries_text}
 pub use Rattle.console.specs.declared.doing.Doing.{Doing}
 pub use Rattle.console.specs.Commands.{IsPassed, RunOf, acts_as, all_harts, flow_of, goes_on, in_steps, is_enough, joined, starts, state, tells_flow, to_end, up_to, wait_text}
@@ -49,7 +49,7 @@ pub use Rattle.console.specs.declared.notes.Note.{Note}
 pub use Rattle.console.specs.declared.notes.What.{What}
 pub use Rattle.console.specs.declared.verb.Verb.TheVariants.{Open}
 pub use Rattle.explain.proofs.Noting.{was_told}
-pub use Rattle.explain.proofs.Running.{HasKept, never_of, owned, refused_by_run}
+pub use Rattle.explain.proofs.Running.{kept_explains, kept_none_full, owns_this, refused_of, so_refused}
 pub use Rattle.hart_core.proofs.Histories.{history_more, no_history}
 pub use Rattle.script.specs.Asking.{with_byte}
 pub use Rattle.script.specs.declared.command.ScriptLine.{ScriptLine}

@@ -1,10 +1,10 @@
 -- What is printed of a run's history, with --explain.
 use Rattle.std.specs.Prelude.{◌≡◌, ◌⊎◌, ◌<◌, ◌^◌, ℕ, Bool, true, false, List, [], ◌∷◌, ◌++◌, length, Option, Some, Result, Ok, Err, codes, decimal}
-use Rattle.console.specs.Vocabulary.{Appends, blocks_of, KeptTree, Placed, Explains, TreeData, Version, tree_in, version_in, Event, trace_in, any_climbs, nothing_kept, HandsOutKept, SawRoom, IsRefusedBy, IsRefusedFor, IsRefusedSo, NeverFoundRoom, OwnsRun, RunOn, number_of, name_of, ExplainRefused, entry_line}
+use Rattle.console.specs.Vocabulary.{Appends, KeptTree, Placed, Explains, TreeData, Version, tree_in, trace_in, any_full, nothing_kept, HandsOutKept, IsMounted, IsRefusedBy, IsRefusedOf, IsRefusedSo, OwnsRun, RunOn, Event, number_of, name_of, ExplainRefused, entry_line}
 use Rattle.explain.specs.declared.refused.ExplainRefused.TheVariants as refused
 use Rattle.console.specs.declared.fault.ConsoleFault.{ConsoleFault}
 use Rattle.console.specs.declared.fault.ConsoleFault.TheVariants as faults
-use Rattle.console.specs.Basics.{KeptRun}
+use Rattle.console.specs.Basics.{KeptRun, SessionOf}
 
 abbrev pub WhereSet : Bool → Type 0 → Type 0 → Type 0
 WhereSet true this other = this
@@ -34,32 +34,46 @@ HasLine (refused.Damaged d) = Unit {0}
 HasLine refused.FullSeen = Unit {0}
 HasLine refused.Climbs = Unit {0}
 
--- ---- of events' outcomes, from a tree of a version on, and of what is kept beside them at the end
+-- ---- of events and their outcomes, and of what is kept beside them at the end
 
--- a list that explains what the run showed; it is the one that was kept, if that does
-pub record IsFound (version : Version) (base : TreeData) (kept : Option KeptTree) (run : KeptRun) (text : List ℕ) : Type 0 where
+-- just the list that was kept
+pub record IsFound (kept : Option KeptTree) (run : KeptRun) (text : List ℕ) : Type 0 where
   pub list : List Placed
-  pub explains : Explains version base (trace_in run.events run.outcomes) list
-  pub flat : any_climbs (trace_in run.events run.outcomes).calls ≡ false
-  pub hands : HandsOutKept version kept base (trace_in run.events run.outcomes) list
-  pub room : SawRoom kept
+  pub hands : HandsOutKept kept run.events run.outcomes list
   pub text_is : text ≡ entries_text list
 
--- no list is found, and why
-pub record IsUnfound (version : Version) (base : TreeData) (kept : Option KeptTree) (run : KeptRun) (text : List ℕ) : Type 0 where
+-- none is handed out, and why
+pub record IsUnfound (kept : Option KeptTree) (run : KeptRun) (text : List ℕ) : Type 0 where
   pub why : ExplainRefused
   pub has_line : HasLine why
-  pub refused : IsRefusedBy version kept base (trace_in run.events run.outcomes) why
+  pub refused : IsRefusedBy kept run.events run.outcomes why
   pub text_is : text ≡ why_line why
 
--- the tree is kept from this one on, beside a run that isn't longer than a list in memory can be
-abbrev pub history_from : Version → TreeData → HistoryBeside
-history_from version base first kept run text =
-    (first ≡ Some (nothing_kept version base)) × (length run.events < 2 ^ 64)
-    × (IsFound version base kept run text ⊎ IsUnfound version base kept run text)
+-- the run isn't longer than a list in memory can be
+abbrev pub history_kept : Option KeptTree → History
+history_kept kept run text = (length run.events < 2 ^ 64) × (IsFound kept run text ⊎ IsUnfound kept run text)
 
-abbrev pub history_kept : Version → TreeData → Option KeptTree → History
-history_kept version base kept = history_from version base (Some (nothing_kept version base)) kept
+-- the tree is kept from this one on
+abbrev pub history_from : Version → TreeData → HistoryBeside
+history_from version base first kept run text = (first ≡ Some (nothing_kept version base)) × history_kept kept run text
+
+-- if no step found no room, no reply says otherwise; and the list that was kept explains what the run showed
+pub record ExplainsRun (version : Version) (base : TreeData) (kept : Option KeptTree) (run : KeptRun) : Type 0 where
+  pub room : (k : KeptTree) → kept ≡ Some k → k.full ≡ false → any_full (trace_in run.events run.outcomes).calls ≡ false
+  pub explains : (list : List Placed) → HandsOutKept kept run.events run.outcomes list → Explains version base (trace_in run.events run.outcomes) list
+
+module _ {D : Type 0} (contents : D → List (List ℕ)) (failures : D → ℕ) where
+  -- the file system is as a mount of a device leaves it, and this is the tree of the device's image
+  pub record IsAsMounted (s : SessionOf D) (base : TreeData) : Type 0 where
+    pub device : D
+    pub mounted : IsMounted contents failures device s.world
+    pub base_is : base ≡ tree_in (contents device)
+
+  -- what was kept of a run that began with this file system
+  abbrev pub history_at : SessionOf D → TreeData → HistoryBeside
+  history_at s base first kept run text =
+      history_from s.world.sizes.version base first kept run text
+      × (IsAsMounted s base → ExplainsRun s.world.sizes.version base kept run)
 
 -- ---- of events on an image
 
@@ -89,19 +103,14 @@ module _ (image : List ℕ) (run : KeptRun) where
     pub outcomes : owns.run.outcomes ≡ run.outcomes
     pub text_is : text ≡ entries_text list
 
-  -- in each history of this very run some step found no room
-  pub record NeverHadRoom : Type 0 where
-    pub made : RunOn image run.events
-    pub outcomes : made.outcomes ≡ run.outcomes
-    pub never : NeverFoundRoom image run.events made
-
-  -- it has none: why these events on this image have none, and why their outcomes in this very run have none
+  -- it has none: why these events on this image have none, and why this very run has none
   pub record HasNoList (text : List ℕ) : Type 0 where
     pub why : ExplainRefused
     pub has_line : HasLine why
     pub refused_so : IsRefusedSo image run.events why
-    pub refused : IsRefusedFor (version_in (blocks_of image)) (tree_in (blocks_of image)) (trace_in run.events run.outcomes) why
-        ⊎ ((why ≡ refused.FullSeen) × NeverHadRoom)
+    pub made : RunOn image run.events
+    pub outcomes : made.outcomes ≡ run.outcomes
+    pub refused : IsRefusedOf image run.events made why
     pub text_is : text ≡ why_line why
 
 abbrev pub history_of : List ℕ → HistoryBeside

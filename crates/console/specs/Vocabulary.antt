@@ -1,5 +1,5 @@
 -- What the crates below call things: the words that this crate's definitions and contracts use.
-pub use Rattle.explain.specs.Vocabulary.{Explains, IsFirstDamage, IsWellFormed, KeptTree, NotesEvent, TreeData, WorldOf, any_climbs, heard_in, nothing_kept, trace_in, tree_in, ended, some_lacks_place}
+pub use Rattle.explain.specs.Vocabulary.{Explains, IsFirstDamage, IsMounted, IsWellFormed, KeptTree, NotesEvent, TreeData, WorldOf, any_climbs, any_full, heard_in, nothing_kept, trace_in, tree_in, ended, some_lacks_place}
 unfoldable pub use Rattle.explain.specs.Vocabulary.{blocks_of}
 pub use Rattle.script.specs.Vocabulary.{Appends, cause_name, cause_number, full_name, full_number}
 pub use Rattle.hart_core.specs.declared.outcome.Outcome.{Outcome}
@@ -12,8 +12,8 @@ pub use Rattle.hart_core.specs.declared.starts.StartRefused.{StartRefused}
 pub use Rattle.script.specs.Said.{call_said, line_said, numbered}
 pub use Rattle.std.specs.Fmt.{format_spec, styled_decimal}
 pub use Rattle.atomic_programs.specs.Calls.{with_answer}
-pub use Rattle.explain.specs.Explained.{IsRefusedBy, IsRefusedFor, IsRefusedSo, NeverFoundRoom, OwnsRun, RunOn, StartsOn}
-pub use Rattle.explain.specs.Keeps.{HandsOut as HandsOutKept, HasNoted, SawRoom}
+pub use Rattle.explain.specs.Explained.{IsRefusedOf, IsRefusedSo, OwnsRun, RunOn, StartsOn}
+pub use Rattle.explain.specs.Keeps.{HandsOut as HandsOutKept, HasNoted, IsRefusedBy}
 pub use Rattle.explain.specs.Numbers.{name_of, number_of}
 pub use Rattle.explain.specs.declared.refused.ExplainRefused.{ExplainRefused}
 pub use Rattle.hart_core.specs.Events.{came_of, event_of, said_of}

@@ -8,28 +8,22 @@ ghost use Rattle.console.specs.Notes.{run_in};
 use crate::fault::ConsoleFault;
 use crate::notes::Notes;
 use explain::{ExplainRefused, Keeper, explain, explain_noted};
-use image_versions::Version;
-use plain_tree::{Placed, Tree};
+use plain_tree::Placed;
 use script::write_entry;
 use std::alloc::Global;
 use std::io;
 use std::io::Write;
 
-/// Prints a list of tree steps that explains, from this tree on, what the run that is kept showed of calls, a line a step; or why there is
-/// none. The version is that of the run's image. The list is the keeper's, who noted the run's events as they were made, and its end. There
-/// is none if the keeper knows of a step without room.
+/// Prints the list of tree steps that the keeper kept, a line a step; or why it isn't handed out. The keeper noted the events of the run
+/// that is kept as they were made, and its end.
 pub fn write_history<W: Write>(
-    alloc: Global,
     out: &mut W,
-    version: Version,
-    base: &Tree,
     notes: &Notes,
     keeper: Keeper,
 ) -> Result<(), ConsoleFault>
-    ensures { TellsHistory (history_kept version base.now keeper) (run_in notes.now.kept) result (W.contents out.old) (W.contents out.new) }
+    ensures { TellsHistory (history_kept keeper) (run_in notes.now.kept) result (W.contents out.old) (W.contents out.new) }
 {
-    let (events, outcomes) = (notes.kept_events(), notes.kept_outcomes());
-    match explain_noted(alloc, version, base, events, outcomes, keeper) {
+    match explain_noted(notes.kept_events(), notes.kept_outcomes(), keeper) {
         Ok(list) => tell_list(out, list.as_slice()),
         Err(why) => tell_why(out, why),
     }

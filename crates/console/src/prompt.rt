@@ -3,7 +3,7 @@ ghost use Rattle.std.specs.Prelude.{◌≡◌, IfOk, IfErr, OnOk};
 ghost use Rattle.console.specs.Vocabulary.{Appends, IsWellFormed, asked_by, line_said};
 ghost use Rattle.console.specs.Behaviours.{IsWritten, Runs};
 ghost use Rattle.console.specs.Commands.{all_harts, state};
-ghost use Rattle.console.specs.Histories.{history_from};
+ghost use Rattle.console.specs.Histories.{history_at};
 ghost use Rattle.console.specs.Images.{disk_for};
 ghost use Rattle.console.specs.Prompts.{PromptsAll, PromptsImage, PromptsLine, PromptsReader, ReadsLine, TellsBad, answers, bad_text, does, does_line, hint_of, mark, started_on, state_text, stepless, steps_text};
 ghost use Rattle.console.specs.Runs.{FailsUnread};
@@ -279,14 +279,13 @@ pub fn prompt_on<D: Device, R: BufRead, W: Write>(
     typed: &mut R,
     out: &mut W,
 ) -> Result<(), ConsoleFault>
-    ensures { PromptsReader D.contents D.failures HELP.now mode (history_from session.old.world.sizes.version base.now) session.old (R.remaining typed.old) result
+    ensures { PromptsReader D.contents D.failures HELP.now mode (history_at D.contents D.failures session.old base.now) session.old (R.remaining typed.old) result
         session.new (W.contents out.old) (W.contents out.new) }
 {
-    let version = session.version();
     let mut running = script_state(alloc, session, mode, base, Queues::new(alloc))?;
     let ended = prompt_all(alloc, session, &mut running, typed, out, HELP);
     let keeper = session.hand_back();
-    finish(alloc, out, mode, version, base, running, keeper, ended)
+    finish(out, mode, running, keeper, ended)
 }
 
 /// Mounts the image, or a fresh one, answers the lines that are typed, and hands out the disk. The lines are never queued, and the

@@ -2,7 +2,7 @@
 ghost use Rattle.std.specs.Prelude.{◌≡◌, ◌<◌, ◌^◌, IfOk, IfErr, IfSome, OnOk, Some};
 ghost use Rattle.console.specs.Vocabulary.{Appends, IsWellFormed, blocks_of, nothing_kept};
 ghost use Rattle.console.specs.declared.fault.ConsoleFault.TheVariants.{Memory};
-ghost use Rattle.console.specs.Histories.{TellsHistory, history_from, history_kept, history_on};
+ghost use Rattle.console.specs.Histories.{TellsHistory, history_at, history_from, history_kept, history_on};
 ghost use Rattle.console.specs.Images.{bytes_for, disk_for, fresh_bytes, JudgesImage};
 ghost use Rattle.console.specs.Lines.{course, script_course};
 ghost use Rattle.console.specs.Notes.{no_notes, run_in};
@@ -22,7 +22,6 @@ use crate::session::Session;
 use block_device::{Device, MemoryDisk};
 use explain::Keeper;
 use image_tree::{examine, find_version};
-use image_versions::Version;
 use mkfs::{MakeRefused, make};
 use plain_tree::Tree;
 use script::{Mode, write_shape};
@@ -103,8 +102,8 @@ fn check<W: Write>(alloc: Global, disk: MemoryDisk, out: &mut W) -> Result<Memor
 
 /// Runs a script on a file system that is mounted: what its lines say (`RunsReader`), in their order, each once, up
 /// to the first in which a call is stopped. Answers are written as they come, and none if a line is bad. If a history
-/// is wanted, it explains the outcomes of the script's events, from `base` on, the tree that the file system has.
-/// Else `base` isn't looked at.
+/// is wanted, it is what was kept of the script's events from `base` on. That explains their outcomes if the file
+/// system is as a mount left it, and `base` is its image's tree (`history_at`). Else `base` isn't looked at.
 pub fn run_on<D: Device, R: Read + Drop, W: Write>(
     alloc: Global,
     session: &mut Session<D>,
@@ -113,7 +112,7 @@ pub fn run_on<D: Device, R: Read + Drop, W: Write>(
     script: R,
     out: &mut W,
 ) -> Result<(), ConsoleFault>
-    ensures { RunsReader D.contents D.failures mode (history_from session.old.world.sizes.version base.now) session.old (R.remaining script) result session.new
+    ensures { RunsReader D.contents D.failures mode (history_at D.contents D.failures session.old base.now) session.old (R.remaining script) result session.new
         (W.contents out.old) (W.contents out.new) }
 {
     let text = read_script(alloc, script, LONGEST_SCRIPT)?;
@@ -182,11 +181,10 @@ fn run_course<D: Device, W: Write>(
         (W.contents out.old) (W.contents out.new) }
 {
     let Course { queues, lines } = run;
-    let version = session.version();
     let mut running = script_state(alloc, session, mode, base, queues)?;
     let ended = run_lines(alloc, session, &mut running, out, lines);
     let keeper = session.hand_back();
-    finish(alloc, out, mode, version, base, running, keeper, ended)
+    finish(out, mode, running, keeper, ended)
 }
 
 /// The state of a script that has to start these calls, with nothing noted. Beside the file system this tree is kept
@@ -210,25 +208,21 @@ pub fn script_state<D: Device>(
     Ok(ScriptState { queues, notes })
 }
 
-/// Prints what comes after all answers, if the lines reached their end or a call was stopped. The version is that of
-/// the image that they ran on.
+/// Prints what comes after all answers, if the lines reached their end or a call was stopped.
 pub fn finish<W: Write>(
-    alloc: Global,
     out: &mut W,
     mode: Mode,
-    version: Version,
-    base: &Tree,
     running: ScriptState,
     keeper: Option<Keeper>,
     ended: Result<(), ConsoleFault>,
 ) -> Result<(), ConsoleFault>
-    ensures { EndsSo mode (history_kept version base.now (beside_in keeper)) running.notes ended (W.contents out.old) result
+    ensures { EndsSo mode (history_kept (beside_in keeper)) running.notes ended (W.contents out.old) result
         (W.contents out.new) }
 {
     match ended {
-        Ok(()) => write_rest(alloc, out, mode, version, base, running, keeper),
+        Ok(()) => write_rest(out, mode, running, keeper),
         Err(ConsoleFault::Stopped(stop)) => {
-            write_rest(alloc, out, mode, version, base, running, keeper)?;
+            write_rest(out, mode, running, keeper)?;
             Err(ConsoleFault::Stopped(stop))
         }
         Err(fault) => Err(fault),
@@ -236,38 +230,32 @@ pub fn finish<W: Write>(
 }
 
 fn write_rest<W: Write>(
-    alloc: Global,
     out: &mut W,
     mode: Mode,
-    version: Version,
-    base: &Tree,
     running: ScriptState,
     keeper: Option<Keeper>,
 ) -> Result<(), ConsoleFault>
-    ensures { PrintsAll mode (history_kept version base.now (beside_in keeper)) running.notes (W.contents out.old) result (W.contents out.new) }
+    ensures { PrintsAll mode (history_kept (beside_in keeper)) running.notes (W.contents out.old) result (W.contents out.new) }
 {
     let ScriptState {
         queues: _queues,
         notes,
     } = running;
     write_end(out, mode, &notes).map_err(ConsoleFault::Write)?;
-    write_wanted(alloc, out, mode, version, base, &notes, keeper)
+    write_wanted(out, mode, &notes, keeper)
 }
 
 // The history of the run, if it is wanted.
 fn write_wanted<W: Write>(
-    alloc: Global,
     out: &mut W,
     mode: Mode,
-    version: Version,
-    base: &Tree,
     notes: &Notes,
     keeper: Option<Keeper>,
 ) -> Result<(), ConsoleFault>
-    ensures { TellsWanted mode (history_kept version base.now (beside_in keeper)) notes.now (W.contents out.old) result (W.contents out.new) }
+    ensures { TellsWanted mode (history_kept (beside_in keeper)) notes.now (W.contents out.old) result (W.contents out.new) }
 {
     if mode.explain {
-        write_kept(alloc, out, version, base, notes, keeper)
+        write_kept(out, notes, keeper)
     } else {
         Ok(())
     }
@@ -275,18 +263,15 @@ fn write_wanted<W: Write>(
 
 // The history of the run. Without a keeper there is none.
 fn write_kept<W: Write>(
-    alloc: Global,
     out: &mut W,
-    version: Version,
-    base: &Tree,
     notes: &Notes,
     keeper: Option<Keeper>,
 ) -> Result<(), ConsoleFault>
-    ensures { TellsHistory (history_kept version base.now (beside_in keeper)) (run_in notes.now.kept) result (W.contents out.old)
+    ensures { TellsHistory (history_kept (beside_in keeper)) (run_in notes.now.kept) result (W.contents out.old)
         (W.contents out.new) }
 {
     match keeper {
-        Some(keeper) => write_history(alloc, out, version, base, notes, keeper),
+        Some(keeper) => write_history(out, notes, keeper),
         None => Err(ConsoleFault::Memory),
     }
 }
@@ -323,7 +308,8 @@ fn write_wanted_on<W: Write>(
     }
 }
 
-// What comes after all answers. Before a history is sought, which may take long, all that was written is handed on.
+// What comes after all answers. Before a history, for which events may be run once more, all that was written is
+// handed on.
 fn write_end<W: Write>(out: &mut W, mode: Mode, notes: &Notes) -> io::Result<()>
     ensures { OnOk result (Appends (W.contents out.old) (W.contents out.new) (end_text mode notes.now)) }
 {

@@ -5,7 +5,7 @@ use Rattle.std.proofs.lemmas.Bool.{or_from}
 use Rattle.explain.proofs.Vocabulary.{◌≡◌, ◌∙◌, ℕ, List, [], ◌∷◌, inl, inr, subst, All, TracedCall, Came, Event, WorldOf, trace_in}
 use Rattle.hart_core.proofs.Vocabulary.{All-head, All-tail}
 use Rattle.atomic_programs.specs.Explained.{In}
-use Rattle.call_programs.specs.Wanted.{wanted}
+use Rattle.run_laws.proofs.Vocabulary.{wanted}
 use Rattle.explain.specs.Vocabulary.{Call, EventOf, FoundRoom, HartsOf, IsHistory, IsMounted, Outside, any_full}
 use Rattle.inode_machine.specs.World as above
 use Rattle.inode_machine.specs.Basics.{Answer, Op}

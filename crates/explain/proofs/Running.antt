@@ -124,6 +124,7 @@ module _ (image : List ℕ) (events : List Event) (few : length events < 2 ^ 64)
   told_of outcomes same o keeps (Ok list) hands = owns_this o keeps list.items (subst (λ (cs : List Came). HandsOut o events cs list.items) (sym same) hands)
   told_of outcomes same o keeps (Err why) by = refused_of o keeps why (subst (λ (cs : List Came). IsRefusedBy o events cs why) (sym same) by)
 
+module _ (image : List ℕ) (events : List Event) (run : RunOn image events) where
   pub so_refused : (why : ExplainRefused) → IsRefusedOf image events run why → IsRefusedSo image events why
   so_refused refused.NoMemory of = tt
   so_refused (refused.Damaged d) of = absurd of

@@ -1,4 +1,4 @@
-use Rattle.console.proofs.Lemmas.{rules, refl, ◌≡◌, Err, inr, Memory, Some, beside_in, course, course_run, history_from, history_kept, nothing_kept, subst, EndsSo}
+use Rattle.console.proofs.Lemmas.{rules, refl, ◌≡◌, Err, inr, Memory, Some, beside_in, course, course_run, history_from, history_kept, nothing_kept, ends_as}
 use Rattle.console.proofs.run.run_course.Goals as goal
 
 pub returns-in_err-running : goal.returns-in_err-running
@@ -9,8 +9,9 @@ returns-in_err-running g c =
 
 pub returns : goal.returns
 returns g c =
+    let kept = beside_in c.hand_back-keeper.result in
+    let first = Some (nothing_kept c.args.session.now.world.sizes.version c.args.base.now) in
     let ended =
-    subst (λ v. EndsSo c.args.mode (history_kept v c.args.base.now (beside_in c.hand_back-keeper.result)) c.run_lines-ended.new.running.notes c.run_lines-ended.result (g.W.Write.contents c.run_lines-ended.new.out) c.finish.result (g.W.Write.contents c.finish.new.out))
-    c.version-version.ensures c.finish.ensures in
-    course_run g.D.Device.contents g.D.Device.failures c.args.mode (history_from c.args.session.now.world.sizes.version c.args.base.now) (course c.args.run) c.args.session.now c.script_state.new.session c.run_lines-ended.new.session c.hand_back-keeper.new.self c.in_ok-running.running.queues c.run_lines-ended.new.running.queues (Some (nothing_kept c.args.session.now.world.sizes.version c.args.base.now)) (beside_in c.hand_back-keeper.result) c.run_lines-ended.result c.finish.result _ _ _ _ _
+    ends_as c.args.mode (history_kept kept) (history_from c.args.session.now.world.sizes.version c.args.base.now first kept) (λ run text told. (refl, told)) c.run_lines-ended.new.running.notes c.run_lines-ended.result c.finish.result (g.W.Write.contents c.run_lines-ended.new.out) (g.W.Write.contents c.finish.new.out) c.finish.ensures in
+    course_run g.D.Device.contents g.D.Device.failures c.args.mode (history_from c.args.session.now.world.sizes.version c.args.base.now) (course c.args.run) c.args.session.now c.script_state.new.session c.run_lines-ended.new.session c.hand_back-keeper.new.self c.in_ok-running.running.queues c.run_lines-ended.new.running.queues first kept c.run_lines-ended.result c.finish.result _ _ _ _ _
     c.in_ok-running.ensures.state.0 c.in_ok-running.ensures.state.1 c.in_ok-running.ensures.keeps c.hand_back-keeper.ensures.left c.hand_back-keeper.ensures.kept c.run_lines-ended.ensures ended
