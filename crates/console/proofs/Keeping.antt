@@ -102,8 +102,7 @@ module _ {D : Type 0} (contents : D → List (List ℕ)) (failures : D → ℕ) 
     of_kept k same full =
         let told = was_told kept k (some_lacks_place t.world.harts) same in
         let keeps = made.1 (nothing_kept s.world.sizes.version (tree_in (contents mounted.device))) told.kept (from ∙ ap (λ (b : TreeData). Some (nothing_kept s.world.sizes.version b)) mounted.base_is) told.was in
-        let room : (ended (some_lacks_place t.world.harts) told.kept).full ≡ false = sym (ap (λ (z : KeptTree). z.full) told.is) ∙ full in
-        (
+        let room : (ended (some_lacks_place t.world.harts) told.kept).full ≡ false = sym (ap (λ (z : KeptTree). z.full) told.is) ∙ full in (
           kept_none_full contents failures s.world mounted.device mounted.mounted run.events run.outcomes t.world.harts few told.kept keeps made.0 room,
           λ flat.
               subst (λ (p : Version × TreeData × KeptTree). Explains p.0 p.1 (trace_in run.events run.outcomes) p.2.list) (λ i. (version_is i, sym mounted.base_is i, sym told.is i))

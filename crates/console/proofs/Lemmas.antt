@@ -1,5 +1,5 @@
 -- What the proofs of this crate's functions use: its lemmas, and what they speak of.
-pub use Rattle.console.proofs.Vocabulary.{Appends, ConsoleFault, EndsSo, Err, FailsTo, Flow, Help, IsWellFormed, JudgesImage, QueuedCalls, List, Memory, Moves, None, NotesOf, Nothing, Ok, OnOk, Option, PromptsAll, PromptsReader, Quit, RefusesDisk, Rests, Result, Run, RunOf, Runs, RunsReader, [], all_harts, ap, arith, asked_in, codes, doing_at, drop, false, get_or_past, hart_in, history_at, history_from, history_kept, history_on, beside_in, nothing_kept, Some, in_steps, inr, length, length-map, line_said, map, none_left, numbered, of_mount, refl, run_in, state, subst, suc, sym, to_end, true, up_to, ℕ, ◌++◌, ◌+◌, ◌-◌, ◌<◌, ◌∙◌, ◌∷◌, ◌≡◌, ◌≤◌}
+pub use Rattle.console.proofs.Vocabulary.{Appends, ConsoleFault, Err, FailsTo, Flow, Help, IsWellFormed, JudgesImage, QueuedCalls, List, Memory, Moves, None, NotesOf, Nothing, Ok, OnOk, Option, PromptsAll, PromptsReader, Quit, RefusesDisk, Rests, Result, Run, RunOf, Runs, RunsReader, [], all_harts, ap, arith, asked_in, codes, doing_at, drop, false, get_or_past, hart_in, history_at, history_from, history_kept, history_on, beside_in, nothing_kept, Some, in_steps, inr, length, length-map, line_said, map, none_left, numbered, of_mount, refl, run_in, state, subst, suc, sym, to_end, true, up_to, ℕ, ◌++◌, ◌+◌, ◌-◌, ◌<◌, ◌∙◌, ◌∷◌, ◌≡◌, ◌≤◌}
 unfoldable pub use Rattle.console.proofs.Vocabulary.{blocks_of, calls_text, entries_text, last_text, lines, queued, tells_waits, timeline_rows, turn, turns}
 pub use Rattle.console.specs.Vocabulary.{State, asked_by, call_said, shape_line, shape_of, stat_text, styled_decimal}
 pub use Rattle.std.proofs.Common.{rules, tests, true≢false}

@@ -71,4 +71,3 @@ pub use Rattle.hart_core.specs.declared.events.Event.{Event}
 pub use Rattle.image_tree.specs.declared.fault.MountFault.{MountFault}
 pub use Rattle.plain_tree.specs.declared.call.Call.{Call}
 pub use Rattle.plain_tree.specs.declared.trace.Placed.{Placed}
-pub use Rattle.plain_tree.specs.declared.trace.Trace.{Trace}

@@ -4,7 +4,6 @@ use Rattle.explain.proofs.Vocabulary.{◌≡◌, List, Placed, Came, Event, any_
 use Rattle.explain.specs.Vocabulary.{KeptTree}
 use Rattle.explain.specs.Keeps.{HandsOut, IsListOf, IsRefusedBy, SawNoRoom, SawRoom}
 use Rattle.explain.specs.declared.refused.ExplainRefused.TheVariants as refused
-use Rattle.std.proofs.Common.{refl}
 
 module _ (events : List Event) (outcomes : List Came) where
   pub full_out : (o : Option KeptTree) → SawNoRoom o → IsRefusedBy o events outcomes refused.FullSeen

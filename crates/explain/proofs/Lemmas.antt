@@ -1,5 +1,5 @@
 -- What the proofs of this crate's functions use: its lemmas, and what they speak of.
-pub use Rattle.explain.proofs.Vocabulary.{ExplainRefused, Global, IsRefusedMount, Ok, Placed, Vec, any_climbs, inr, subst, ◌∙◌}
+pub use Rattle.explain.proofs.Vocabulary.{ExplainRefused, IsRefusedMount, Ok, subst, ◌∙◌}
 pub use Rattle.hart_core.proofs.Vocabulary.{IsCall, Option, ap, refl, sym}
 pub use Rattle.explain.proofs.Handing.{climbs_out, full_out, list_out, short_out}
 pub use Rattle.explain.proofs.Mounting.{refused_mount, refused_tree}

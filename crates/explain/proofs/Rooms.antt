@@ -1,6 +1,6 @@
 -- If each step of a run found room, no reply says that there is none.
-use Rattle.std.specs.Prelude.{◌⊎◌, ◌++◌, Bool, true, false, Option, Some, None}
-use Rattle.std.proofs.Common.{refl, sym, ap}
+use Rattle.std.specs.Prelude.{◌++◌, true, false, Option, Some, None}
+use Rattle.std.proofs.Common.{refl, sym}
 use Rattle.std.proofs.lemmas.Bool.{or_from}
 use Rattle.explain.proofs.Vocabulary.{◌≡◌, ◌∙◌, ℕ, List, [], ◌∷◌, inl, inr, subst, All, TracedCall, Came, Event, WorldOf, trace_in}
 use Rattle.hart_core.proofs.Vocabulary.{All-head, All-tail}
@@ -15,9 +15,8 @@ use Rattle.plain_tree.specs.declared.answer.Answer.TheVariants as answers
 use Rattle.plain_tree.specs.declared.answer.Reply.{Reply}
 use Rattle.run_laws.proofs.Answered.{found_none}
 use Rattle.run_laws.proofs.RoomRuns.{room_told}
-use Rattle.run_laws.specs.Answered.{FoundNone, IsAnsweredRightly}
+use Rattle.run_laws.specs.Answered.{IsAnsweredRightly}
 use Rattle.run_laws.specs.Rooms.{AllFindRoom}
-use Rattle.run_laws.specs.Vocabulary.{Full}
 use Rattle.tree_histories.specs.Told.{is_full_answer, is_full_reply, is_full_reply_in}
 
 -- an operation whose answer doesn't say that there is no room has wanted none

@@ -1,5 +1,5 @@
 -- What was kept of a run is this run's own list, and says why it isn't handed out.
-use Rattle.explain.proofs.Vocabulary.{◌≡◌, ℕ, false, List, [], ◌∷◌, Result, Ok, Err, subst, ◌∙◌, inl, MatchResult, Vec, All, Global, or_parts, All-cons, All-nil, blocks_of, Placed, TracedCall, WorldOf, call_climbs, Explains, TreeData, tree_in, Came, Event, trace_in, any_climbs, Played, ExplainRefused, IsRefusedMount, IsRefusedSo, RunOn, never, IsPlayed}
+use Rattle.explain.proofs.Vocabulary.{◌≡◌, ℕ, false, List, [], ◌∷◌, Result, Ok, Err, subst, ◌∙◌, inl, MatchResult, Vec, All, Global, or_parts, All-cons, All-nil, blocks_of, Placed, TracedCall, WorldOf, call_climbs, Explains, TreeData, tree_in, Came, Event, trace_in, any_climbs, ExplainRefused, IsRefusedMount, IsRefusedSo, RunOn, never}
 use Rattle.explain.specs.declared.refused.ExplainRefused.TheVariants as refused
 use Rattle.std.specs.Prelude.{◌↔◌, ◌<◌, ◌^◌, length, true, Option, Some, None}
 use Rattle.std.proofs.Common.{refl, sym, ap}

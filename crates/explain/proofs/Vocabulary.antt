@@ -5,8 +5,6 @@ pub use Rattle.explain.specs.Vocabulary.{Global, any_climbs}
 unfoldable pub use Rattle.explain.specs.Vocabulary.{blocks_of}
 pub use Rattle.image_tree.proofs.Vocabulary.{Err, Ok, Result, Vec}
 pub use Rattle.explain.specs.Explained.{IsRefusedMount, IsRefusedSo, RunOn, StartsOn, never, refused_by}
-pub use Rattle.explain.specs.Played.{IsPlayed}
-pub use Rattle.explain.specs.declared.play.Played.{Played}
 pub use Rattle.explain.specs.declared.refused.ExplainRefused.{ExplainRefused}
 pub use Rattle.image_tree.specs.Images.{JudgesFault}
 pub use Rattle.image_tree.specs.declared.fault.MountFault.TheVariants.{Damaged, DeviceFault, NoMemory}

@@ -11,12 +11,10 @@ pub use Rattle.image_tree.specs.Images.{IsFirstDamage}
 pub use Rattle.image_versions.specs.declared.version.Version.{Version}
 pub use Rattle.fs_layout.specs.Recovered.{version_in}
 pub use Rattle.image_tree.specs.Faults.{damage_name, damage_number}
-pub use Rattle.plain_tree.specs.declared.refused.NoMemory.{NoMemory}
 pub use Rattle.tree_histories.specs.Told.{any_climbs, any_full}
 pub use Rattle.image_tree.specs.declared.fault.MountFault.{MountFault}
 pub use Rattle.plain_tree.specs.declared.call.Call.{Call}
 pub use Rattle.plain_tree.specs.declared.trace.Placed.{Placed}
-pub use Rattle.plain_tree.specs.declared.trace.Trace.{Trace}
 pub use Rattle.hart_core.specs.Telling.{NotesEvent, heard_in, some_lacks_place}
 pub use Rattle.fs_layout.specs.declared.superblock.Super.{Super}
 pub use Rattle.path_walk.specs.declared.asks.Heard.{Heard}

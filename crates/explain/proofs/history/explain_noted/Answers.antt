@@ -29,7 +29,7 @@ returns-then-any_climbs-clause-owns c = λ image run same keeps.
     let few : length c.args.events.now < 2 ^ 64 = omega arith in
     told_of image c.args.events.now few run c.args.outcomes.now same c.args.keeper keeps (Err Climbs)
     (climbs_out c.args.events.now c.args.outcomes.now c.args.keeper _ (c.is_full.ensures.room c.if-is_full.false) c.in-Ok.ensures
-        (sym c.any_climbs.ensures ∙ c.if-any_climbs.true))
+    (sym c.any_climbs.ensures ∙ c.if-any_climbs.true))
 
 pub returns-clause-kept : goal.returns-clause-kept
 returns-clause-kept c =
@@ -41,4 +41,4 @@ returns-clause-owns c = λ image run same keeps.
     let few : length c.args.events.now < 2 ^ 64 = omega arith in
     told_of image c.args.events.now few run c.args.outcomes.now same c.args.keeper keeps (Ok c.in-Ok.list)
     (list_out c.args.events.now c.args.outcomes.now c.args.keeper c.in-Ok.list.items (c.is_full.ensures.room c.if-is_full.false) c.in-Ok.ensures
-        (sym c.any_climbs.ensures ∙ c.if-any_climbs.false))
+    (sym c.any_climbs.ensures ∙ c.if-any_climbs.false))
