@@ -12,7 +12,8 @@ use Rattle.run_laws.specs.Agreeing.{IsRunOn}
 use Rattle.run_laws.specs.OneList.{list_of}
 
 module _ (image : List ℕ) (events : List Event) where
-  run_on : (r : RunOn image events) (a : List (EventOf Call Outside)) → IsOneOf image events r a → IsRunOn blocks_of never (blocks_of image) r.world events r.outcomes a
+  run_on : (r : RunOn image events) (a : List (EventOf Call Outside)) → IsOneOf image events r a
+      → IsRunOn blocks_of never (blocks_of image) r.world events r.outcomes a
   run_on r a is = record { device = image; blocks = refl; mounted = r.starts.mounted; new = r.new; is = is; unfailed = refl }
 
   agree : (one other : RunOn image events) → Agree image events one other
@@ -23,7 +24,8 @@ module _ (image : List ℕ) (events : List Event) where
   }
     where
       both : (a b : List (EventOf Call Outside)) → IsOneOf image events one a → IsOneOf image events other b
-          → (one.outcomes ≡ other.outcomes) × (list_of blocks_of never one.world a ≡ list_of blocks_of never other.world b) × (RoomIn image events one a → RoomIn image events other b)
+          → (one.outcomes ≡ other.outcomes) × (list_of blocks_of never one.world a ≡ list_of blocks_of never other.world b)
+          × (RoomIn image events one a → RoomIn image events other b)
       both a b is by =
           runs_on_one_image_agree blocks_of never one.world other.world (blocks_of image) events one.outcomes other.outcomes a b (run_on one a is) (run_on other b by)
 
@@ -42,7 +44,9 @@ module _ (image : List ℕ) (events : List Event) where
       flat = flat;
       explains = subst (λ (cs : List Came). Explains (version_in (blocks_of image)) (tree_in (blocks_of image)) (trace_in events cs) list) same owns.explains;
       own = λ b by. owns.own owns.run.history.0 owns.run.history.1 ∙ (agree owns.run run).lists owns.run.history.0 b owns.run.history.1 by;
-      stops = λ b by k le. runs_have_one_list blocks_of never run.world image events run.outcomes run.new b run.starts.mounted by (room b by) (inl (none_climbs (trace_in events run.outcomes).calls flat)) k le;
+      stops = λ b by k le.
+          runs_have_one_list blocks_of never run.world image events run.outcomes run.new b run.starts.mounted by (room b by)
+          (inl (none_climbs (trace_in events run.outcomes).calls flat)) k le;
     },
     refl,
   )

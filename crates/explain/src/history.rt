@@ -23,7 +23,7 @@ use std::alloc::Global;
 /// The events run beside a tree, on which each operation makes its move as it acts: the list is made of these moves.
 /// Each step is there with its answer at the event at which it acted. The failing steps of walks are at the event of
 /// the unlink that removed their directory. It is the run's own list, of which the disk holds a beginning wherever
-/// the run stops. That takes as long as the run and the steps on the tree.
+/// the run stops, and that of each such run (`any_runs_agree`). It takes as long as the run and the steps on the tree.
 pub fn explain(alloc: Global, image: &[u8], events: &[Event]) -> Result<Vec<Placed>, ExplainRefused>
     ensures { MatchResult result (λ v. OwnsRun image.now events.now v.items) (λ e. IsRefusedSo image.now events.now e) }
 {

@@ -2,7 +2,7 @@
 use Rattle.run_laws.proofs.Vocabulary.{◌≡◌, inl, inr, ℕ, ◌+◌, ◌<◌, ◌≤◌, List, [], ◌∷◌, length, map, refl, sym, ◌∙◌, ap, subst, arith, cases_lt, None, replicate, Super, Version, sizes_of, tree_of, TreeData, at_rest, Reply, Call, EventOf, State, AllHonest, Sound, fresh, outcomes, run, Plain, OutcomeOf, Started, WasRefused as Refused, WasIdle, DidWait, DidRun, DidEnd, DidStop, WasStopped, all_by_kind, erase, plain_outcomes, plain_run, erase-outcomes, erase-run, Outside, Refusal, History, nothing_yet, history_of, block_moves, first, block_calls, block_code, is_code, served_calls, Event, AllAnswer, IsHistory, outcomes_of, WorldOf, calls_of, mountable, rests_erased, all_honest, first_sound, version_in}
 use Rattle.block_device.specs.Blocks.{HasWholeBlocks, block_at}
 use Rattle.block_device.specs.BlockLaws.{length-block_at}
-use Rattle.buffer_cache.specs.Limits.{buffer_count}
+use Rattle.buffer_cache.specs.Limits.{buffer_count, hart_count}
 use Rattle.buffer_cache.specs.Seats.{unused_from}
 use Rattle.std.proofs.lemmas.List.{get_or_past}
 use Rattle.fs_layout.proofs.RecoveredDisk.{recovered-empty}
@@ -81,7 +81,8 @@ longer sizes one other whole within same lt =
     let none : length (block_at other (length one)) ≡ 0 = ap (λ (bytes : List ℕ). length bytes) (same (length one) (inr within) ∙ past) in
     omega (arith, at, none)
 
-as_long : (sizes : Super) (one other : List (List ℕ)) → HasWholeBlocks one → HasWholeBlocks other → sizes.logstart + sizes.nlog ≤ length one → sizes.logstart + sizes.nlog ≤ length other
+as_long : (sizes : Super) (one other : List (List ℕ)) → HasWholeBlocks one → HasWholeBlocks other
+    → sizes.logstart + sizes.nlog ≤ length one → sizes.logstart + sizes.nlog ≤ length other
     → ((b : ℕ) → IsOutsideLog sizes b → block_at other b ≡ block_at one b) → length other ≡ length one
 as_long sizes one other first_whole whole first_within within same = elim (cases_lt (length one) (length other)) [
   | inl lt ↦ absurd (longer sizes one other whole first_within same lt)
@@ -146,7 +147,8 @@ module _ {D : Type 0} (contents : D → List (List ℕ)) (failures : D → ℕ) 
               ∙ ap (plain_outcomes (block_calls sizes) (block_code sizes) history) begins_so ∙ is.comes_to;
           unfailed =
               ap (λ (p : Plain (block_calls sizes) (block_code sizes)). p.shared.state.log.failures)
-              (sym (erase-run (block_calls sizes) (block_code sizes) (is_code sizes) history (start_of sizes w)) ∙ ap (plain_run (block_calls sizes) (block_code sizes) history) begins_so ∙ is.makes)
+              (sym (erase-run (block_calls sizes) (block_code sizes) (is_code sizes) history (start_of sizes w))
+              ∙ ap (plain_run (block_calls sizes) (block_code sizes) history) begins_so ∙ is.makes)
               ∙ on.unfailed;
         }
 
@@ -165,13 +167,23 @@ module _ {D : Type 0} (contents : D → List (List ℕ)) (failures : D → ℕ) 
 
     disks_agree : AgreeApart (sizes_of (disk_of w)) (disk_of w) (disk_of v)
     disks_agree = subst (λ (z : Super). AgreeApart z (disk_of w) (disk_of v)) (sym (settled w events cs one on).sizes) (record {
-      long = as_long (sizes_of image) (disk_of w) (disk_of v) on.mounted.rests.whole by.mounted.rests.whole (within w events cs one on) (within v events ds two by) same_blocks;
+      long =
+          as_long (sizes_of image) (disk_of w) (disk_of v) on.mounted.rests.whole by.mounted.rests.whole
+          (within w events cs one on) (within v events ds two by) same_blocks;
       same = same_blocks;
     })
 
     states_are : state_over (disk_of v) (count_of v) (resting_state (disk_of w) (count_of w)) ≡ resting_state (disk_of v) (count_of v)
     states_are = λ i. record {
-      log = record { contents = disk_of v; failures = count_of v; seats = unused_from 0 buffer_count; sizes = one_sizes i; group = []; members = replicate 8 None; phase = Open };
+      log = record {
+        contents = disk_of v;
+        failures = count_of v;
+        seats = unused_from 0 buffer_count;
+        sizes = one_sizes i;
+        group = [];
+        members = replicate hart_count None;
+        phase = Open;
+      };
       tables = tables.fresh;
     }
 
@@ -182,19 +194,23 @@ module _ {D : Type 0} (contents : D → List (List ℕ)) (failures : D → ℕ) 
     alike_at_first sizes = (
       record { blocks = mounted (disk_of v) (count_of v); children = λ h. None },
       record { children = refl; states = record { disk = disk_of v; count = count_of v; is = states_are; agree = disks_agree } },
-      ap (λ (g : above.World). fresh (block_calls sizes) (record { real = record { blocks = mounted (disk_of v) (count_of v); children = λ h. None }; seen = g })) one_world,
+      ap
+          (λ (g : above.World).
+          fresh (block_calls sizes) (record { real = record { blocks = mounted (disk_of v) (count_of v); children = λ h. None }; seen = g })) one_world,
     )
 
     same_sizes : w.sizes ≡ v.sizes
     same_sizes = sizes_are w events cs one on ∙ sym (sizes_are v events ds two by)
 
-    they_agree : (cs ≡ ds) × (list_of contents failures w one ≡ list_of contents failures v two) × (FoundRoom contents failures w one → FoundRoom contents failures v two)
+    they_agree : (cs ≡ ds) × (list_of contents failures w one ≡ list_of contents failures v two)
+        × (FoundRoom contents failures w one → FoundRoom contents failures v two)
     they_agree =
         let first_run = run_at w events cs one on w.sizes refl in
         let other_run = run_at v events ds two by w.sizes same_sizes in
         let alike = runs_alike w.sizes one two (start_of w.sizes w) (start_of w.sizes v) nothing_yet first_run.sound first_run.honest (alike_at_first w.sizes)
         (on.is.asks ∙ sym by.is.asks) first_run.unfailed other_run.unfailed in
-        let came_same : outcomes_of cs ≡ outcomes_of ds = sym first_run.came_is ∙ ap (all_by_kind (block_calls w.sizes) (block_code w.sizes)) alike.came ∙ other_run.came_is in (
+        let came_same : outcomes_of cs ≡ outcomes_of ds =
+        sym first_run.came_is ∙ ap (all_by_kind (block_calls w.sizes) (block_code w.sizes)) alike.came ∙ other_run.came_is in (
           sym (all_back cs) ∙ ap (map came_back) came_same ∙ all_back ds,
           ap (λ (b : History). b.list) alike.list ∙ ap (λ (z : Super). history_of z.version (block_moves z) (first (disk_of v) (count_of v)) two) same_sizes,
           λ clean.

@@ -61,7 +61,8 @@ Near (Stops s) (Stops t) = AlikeStates s t ⊎ (HasFailed s ⊎ HasFailed t)
 -- ---- a write to both
 
 -- the same bytes are put at the same place
-set_agrees : (sizes : Super) (one other : List (List ℕ)) (i : ℕ) (x y : List ℕ) → x ≡ y → AgreeApart sizes one other → AgreeApart sizes (slice_set one i x) (slice_set other i y)
+set_agrees : (sizes : Super) (one other : List (List ℕ)) (i : ℕ) (x y : List ℕ) → x ≡ y → AgreeApart sizes one other
+    → AgreeApart sizes (slice_set one i x) (slice_set other i y)
 set_agrees sizes one other i x y is agree = record {
   long = length-set other i y ∙ agree.long ∙ sym (length-set one i x);
   same = at;
@@ -90,7 +91,8 @@ module _ (h : ℕ) (s : State) (c : List (List ℕ)) (n : ℕ) (agree : AgreeApa
   t = state_over c n s
 
   -- with another log that has the same sizes and contents, or with other tables
-  still_alike : (l : LogPart) (u : TablesState) → AgreeApart l.sizes l.contents c → AlikeStates (record { log = l; tables = u }) (record { log = over_disk c n l; tables = u })
+  still_alike : (l : LogPart) (u : TablesState) → AgreeApart l.sizes l.contents c
+      → AlikeStates (record { log = l; tables = u }) (record { log = over_disk c n l; tables = u })
   still_alike l u a = record { disk = c; count = n; is = refl; agree = a }
 
   in_tables_near : {A : Type 0} (d : ExecResult A TablesState) → Near (in_tables s d) (in_tables t d)
@@ -150,11 +152,15 @@ module _ (h : ℕ) (s : State) (c : List (List ℕ)) (n : ℕ) (agree : AgreeApa
 
   module _ (whole : IsWholeLog s.log) where
     -- the group's blocks are seen as the same, since none is the log's
-    seen_same : (k : ℕ) → k < length s.log.group → seen_in s.log.contents s.log.seats (slice_index s.log.group k) ≡ seen_in c s.log.seats (slice_index s.log.group k)
-    seen_same k lt = ap (λ (bytes : List ℕ). unwrap_or (kept (slice_index s.log.group k) s.log.seats) bytes) (sym (agree.same (slice_index s.log.group k) (whole.log.homes k lt).outside))
+    seen_same : (k : ℕ) → k < length s.log.group
+        → seen_in s.log.contents s.log.seats (slice_index s.log.group k) ≡ seen_in c s.log.seats (slice_index s.log.group k)
+    seen_same k lt =
+        ap (λ (bytes : List ℕ). unwrap_or (kept (slice_index s.log.group k) s.log.seats) bytes)
+        (sym (agree.same (slice_index s.log.group k) (whole.log.homes k lt).outside))
 
     bytes_if : (i : ℕ) (head : List ℕ) → i ≤ length s.log.group → (b : Bool) → (i == length s.log.group) ≡ b
-        → ◌≡◌ {A = List ℕ} (if b then head else seen_in s.log.contents s.log.seats (slice_index s.log.group i)) (if b then head else seen_in c s.log.seats (slice_index s.log.group i))
+        → ◌≡◌ {A = List ℕ} (if b then head else seen_in s.log.contents s.log.seats (slice_index s.log.group i))
+        (if b then head else seen_in c s.log.seats (slice_index s.log.group i))
     bytes_if i head le true e = refl
     bytes_if i head le false e = seen_same i (grind (arith, le, e))
 
@@ -172,7 +178,9 @@ module _ (h : ℕ) (s : State) (c : List (List ℕ)) (n : ℕ) (agree : AgreeApa
         disk = written t.log;
         count = n;
         is = refl;
-        agree = set_agrees s.log.sizes s.log.contents c (write_to s.log.sizes s.log.group s.log.phase) (write_of (seen_in s.log.contents s.log.seats) s.log.group s.log.phase)
+        agree =
+            set_agrees s.log.sizes s.log.contents c (write_to s.log.sizes s.log.group s.log.phase)
+            (write_of (seen_in s.log.contents s.log.seats) s.log.group s.log.phase)
             (write_of (seen_in c s.log.seats) s.log.group s.log.phase) (bytes_same s.log.phase whole.log.blocks) agree;
       },
     )

@@ -43,7 +43,8 @@ module _ (h : ℕ) (busy : ℕ → Bool) (s : steps.State) (c : List (List ℕ))
   start_same : (call : Call) → start_refusal h call busy before ≡ start_refusal h call busy after
   start_same call = ap (λ (o : Option Refusal). or_else (if reserved busy children h then Some Busy else None) (or_else (refusal_for call) o)) (others_same call)
 
-refusal_same : (h : ℕ) (call : Call) (busy : ℕ → Bool) (v w : World) → AlikeWorlds v w → start_refusal h call busy (shared_of v) ≡ start_refusal h call busy (shared_of w)
+refusal_same : (h : ℕ) (call : Call) (busy : ℕ → Bool) (v w : World) → AlikeWorlds v w
+    → start_refusal h call busy (shared_of v) ≡ start_refusal h call busy (shared_of w)
 refusal_same h call busy v w alike =
     start_same h busy v.blocks.state alike.states.disk alike.states.count v.children call
     ∙ (λ i. start_refusal h call busy (record { state = alike.states.is i; children = alike.children i }))
@@ -91,7 +92,16 @@ module _ (sizes : Super) where
       abbrev ran_on : World → steps.Answer op → steps.State → World
       ran_on w a t =
           let o = blocks.owners_after h op w.blocks t in
-          record w { blocks = record { state = t; owner = o.owner; left = o.left; taken = o.taken; commits = blocks.commits_after h op a w.blocks.commits; new = blocks.new_after h op a t.log w.blocks.new } }
+          record w {
+            blocks = record {
+              state = t;
+              owner = o.owner;
+              left = o.left;
+              taken = o.taken;
+              commits = blocks.commits_after h op a w.blocks.commits;
+              new = blocks.new_after h op a t.log w.blocks.new;
+            };
+          }
 
       abbrev Out : ExecResult (steps.Answer op) steps.State → ExecResult (steps.Answer op) steps.State → Type 0
       Out d e =
@@ -105,11 +115,13 @@ module _ (sizes : Super) where
       tried_out (Ran a u) Waits near = absurd near
       tried_out (Ran a u) (Ran b t) near =
           subst (λ (z : steps.Answer op). Out (Ran a u) (Ran z t)) near.0
-          (moved_out rn (op, a) (puts a) (k a) (ran_on s.world.real a u) (ran_on r a t) (seen_after U h (mark a) s.world.seen) (record { children = alike.children; states = near.1 }))
+          (moved_out rn (op, a) (puts a) (k a) (ran_on s.world.real a u) (ran_on r a t) (seen_after U h (mark a) s.world.seen)
+          (record { children = alike.children; states = near.1 }))
       tried_out (Ran a u) (Stops t) near = inr (inr (refl, near))
       tried_out (Stops u) Waits near = inr (inl (refl, near))
       tried_out (Stops u) (Ran b t) near = inr (inl (refl, near))
-      tried_out (Stops u) (Stops t) (inl a) = inl ((record r { blocks = record (r.blocks) { state = t } }, record { children = alike.children; states = a }, refl), refl, refl)
+      tried_out (Stops u) (Stops t) (inl a) =
+          inl ((record r { blocks = record (r.blocks) { state = t } }, record { children = alike.children; states = a }, refl), refl, refl)
       tried_out (Stops u) (Stops t) (inr (inl f)) = inr (inl (refl, f))
       tried_out (Stops u) (Stops t) (inr (inr f)) = inr (inr (refl, f))
 
@@ -128,7 +140,8 @@ module _ (sizes : Super) where
       Facts rn = IsWholeLog s.world.real.blocks.state.log × OfNext (L.M.May h) (asks rn.prog) s.world
 
       unless_out : (rn : Run L) (b : Bool) → s.stopped ≡ b → (s.stopped ≡ false → Facts rn)
-          → StepOut (step_unless L h x s b rn) (placed_unless N h x s.world b rn.prog) (step_unless L h y (over r s) b rn) (placed_unless N h y (over r s).world b rn.prog)
+          → StepOut (step_unless L h x s b rn) (placed_unless N h x s.world b rn.prog)
+          (step_unless L h y (over r s) b rn) (placed_unless N h y (over r s).world b rn.prog)
       unless_out rn true is facts = inl ((r, alike, refl), refl, refl)
       unless_out rn false is facts = let f = facts is in prog_out rn rn.prog f.0 f.1
 
@@ -155,18 +168,24 @@ module _ (sizes : Super) where
         let v = record (s.world.real) { children = put s.world.real.children h (child_of call) } in
         let w = record r { children = put r.children h (child_of call) } in
         let why = start_refusal h call (busy_in L s) (shared_of s.world.real) in
-        subst (λ (z : Option Refusal). StartOut (begun L h call s (began_both g (if_hart (nat_lt h hart_count) (begun_by v why)))) (begun L h call (over r s) (began_both g (if_hart (nat_lt h hart_count) (begun_by w z)))))
+        subst
+        (λ (z : Option Refusal).
+        StartOut (begun L h call s (began_both g (if_hart (nat_lt h hart_count) (begun_by v why))))
+        (begun L h call (over r s) (began_both g (if_hart (nat_lt h hart_count) (begun_by w z)))))
         (refusal_same h call (busy_in L s) s.world.real r alike)
-        (begun_out call (nat_lt h hart_count) why g v w (record { children = ap (λ (f : ℕ → Option ℕ). put f h (child_of call)) alike.children; states = alike.states }))
+        (begun_out call (nat_lt h hart_count) why g v w
+        (record { children = ap (λ (f : ℕ → Option ℕ). put f h (child_of call)) alike.children; states = alike.states }))
 
   -- ---- an event
 
   abbrev EventOut : Event Call Outside → Event Call Outside → State L → State L → Type 0
   EventOut e f s t =
-      (Alike (next L e s) (next L f t) × ((makes L e s).came ≡ (makes L f t).came) × ((b : History) → kept_on sizes.version N e s b ≡ kept_on sizes.version N f t b))
+      (Alike (next L e s) (next L f t) × ((makes L e s).came ≡ (makes L f t).came)
+      × ((b : History) → kept_on sizes.version N e s b ≡ kept_on sizes.version N f t b))
       ⊎ (Broke (next L e s) ⊎ Broke (next L f t))
 
-  facts : (s : State L) → Sound L s → (h : ℕ) (rn : Run L) → s.running h ≡ Some rn → s.stopped ≡ false → IsWholeLog s.world.real.blocks.state.log × OfNext (L.M.May h) (asks rn.prog) s.world
+  facts : (s : State L) → Sound L s → (h : ℕ) (rn : Run L) → s.running h ≡ Some rn → s.stopped ≡ false
+      → IsWholeLog s.world.real.blocks.state.log × OfNext (L.M.May h) (asks rn.prog) s.world
   facts s sound h rn at on =
       let keeps = sound_keeps L (lawful sizes) s sound in
       ((inv_of L s.stopped s.world keeps.holds on).0.0.whole, may_make L (lawful sizes) (L.M.tree sound.first) s keeps h rn on at)
@@ -232,7 +251,8 @@ module _ (sizes : Super) where
     pub came : ◌≡◌ {A = List (EventOutcome (block_calls sizes))} (outcomes (block_calls sizes) a s) (outcomes (block_calls sizes) b t)
     pub seen : (run (block_calls sizes) a s).world.seen ≡ (run (block_calls sizes) b t).world.seen
 
-  pub runs_alike : (a b : List (Event Call Outside)) (s t : State (block_calls sizes)) (k : History) → Sound (block_calls sizes) s → AllHonest (block_calls sizes) a s → Alike s t → all_asked a ≡ all_asked b
+  pub runs_alike : (a b : List (Event Call Outside)) (s t : State (block_calls sizes)) (k : History) → Sound (block_calls sizes) s
+      → AllHonest (block_calls sizes) a s → Alike s t → all_asked a ≡ all_asked b
       → Unfailed (run (block_calls sizes) a s) → Unfailed (run (block_calls sizes) b t) → RunsAlike a b s t k
   runs_alike [] [] s t k sound honest alike same one two = record { list = refl; came = refl; seen = ap (λ (z : State L). z.world.seen) alike.2 }
   runs_alike [] (f ∷ b) s t k sound honest alike same one two = absurd cc
@@ -242,7 +262,8 @@ module _ (sizes : Super) where
       let rest_same : all_asked a ≡ all_asked b = cc in
       elim (event_alike e f s t sound alike first_same) [
         | inl out ↦
-            let rest = runs_alike a b (next L e s) (next L f t) (kept_on sizes.version N e s k) (sound_run L (e ∷ []) s sound (honest.0, tt)) honest.1 out.0 rest_same one two in
+            let rest = runs_alike a b (next L e s) (next L f t) (kept_on sizes.version N e s k)
+            (sound_run L (e ∷ []) s sound (honest.0, tt)) honest.1 out.0 rest_same one two in
             record {
               list = rest.list ∙ ap (kept sizes.version N b (next L f t)) (out.2 k);
               came = λ i. out.1 i ∷ rest.came i;

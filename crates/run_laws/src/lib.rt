@@ -1,7 +1,7 @@
-//! Every run of the calls on blocks is a run of the machine of whole inodes, and has one list of tree steps. It finds
-//! no room only if there is none, and then takes back what the call had changed. It records at most ten blocks in a
-//! transaction, takes few steps a call, and leaves nothing of a call in an idle hart. The functions do nothing: each
-//! carries a law.
+//! Every run of the calls on blocks is a run of the machine of whole inodes, and has one list of tree steps. If the
+//! device doesn't fail, the image and the events fix its outcomes and that list. It finds no room only if there is
+//! none, and then takes back what the call had changed. It records at most ten blocks in a transaction, takes few
+//! steps a call, and leaves nothing of a call in an idle hart. The functions do nothing: each carries a law.
 #![tactic(auto)]
 
 ghost use Rattle.run_laws.specs.ActsAt.{OperationsActFirstOrLast};
