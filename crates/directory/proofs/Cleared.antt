@@ -1,5 +1,5 @@
 -- A slot is free exactly if it is all zeros.
-use Rattle.directory.proofs.Vocabulary.{◌≡◌, ◌≢◌, ℕ, ◌+◌, ◌*◌, ◌/◌, ◌%◌, ◌<◌, ◌≤◌, true, false, List, [], length, drop, get_or, replicate, Option, Some, None, refl, sym, ap, ◌∙◌, arith, length-replicate, get_or-drop, same_number_lists, drop_all, little_number, Version, Dirent, Free, Used, record_at, IsBytes, dirent_of, dirent_at, dirent_of-spell, spell-dirent_of, is_free, u64_at, block_len, dirent_len_of, dirents_per_block_of, are_words, inside}
+use Rattle.directory.proofs.Vocabulary.{◌≡◌, ◌≢◌, ℕ, ◌+◌, ◌*◌, ◌/◌, ◌%◌, ◌<◌, true, false, List, [], length, drop, get_or, replicate, Option, Some, None, refl, sym, ap, ◌∙◌, arith, length-replicate, get_or-drop, same_number_lists, drop_all, little_number, Version, Dirent, Free, Used, record_at, IsBytes, dirent_of, dirent_at, dirent_of-spell, spell-dirent_of, is_free, u64_at, block_len, dirent_len_of, dirents_per_block_of, are_words, inside}
 use Rattle.directory.proofs.OneSlot.{IsSlot, slot_in, rest_fits, zeros_at}
 use Rattle.directory.proofs.Padded.{u64_padded}
 use Rattle.directory.proofs.Words.{same_bytes, u64_at-part}

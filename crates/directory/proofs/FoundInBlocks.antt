@@ -1,5 +1,5 @@
 -- What is found in the blocks of a directory, one after the other.
-use Rattle.directory.proofs.Vocabulary.{◌≡◌, ℕ, ◌+◌, ◌-◌, ◌*◌, ◌/◌, ◌%◌, ◌<◌, ◌≤◌, nat_le, ◌&&◌, Bool, true, false, List, Option, Some, None, refl, sym, ap, ◌∙◌, arith, ⊎_elim, cases_lt, le-leb, lt-leb, option_map, Dinode, Dirent, dirent_at, first_below, FirstIs, first_is, Found, is_used, first_named, first_free, first_used, Aim, Named, Unused, Entry, slot_count, slots_in, first_in, found_at, found_in, slot_at, is_sought, number_of, IsFirst, dirents_per_block_of, Version, in_block}
+use Rattle.directory.proofs.Vocabulary.{◌≡◌, ℕ, ◌+◌, ◌-◌, ◌*◌, ◌<◌, ◌≤◌, nat_le, ◌&&◌, Bool, true, false, List, Option, Some, None, refl, sym, ap, ◌∙◌, arith, ⊎_elim, cases_lt, le-leb, lt-leb, option_map, Dinode, Dirent, dirent_at, first_below, FirstIs, first_is, Found, is_used, first_named, first_free, first_used, Aim, Named, Unused, Entry, slot_count, slots_in, first_in, found_at, found_in, slot_at, is_sought, number_of, IsFirst, dirents_per_block_of, Version, in_block}
 use Rattle.directory.proofs.EntryNumbers.{sought-number}
 
 -- ---- the slots of a block

@@ -14,7 +14,7 @@ pub use Rattle.directory.proofs.Raised.{raise_full, raise_whole, slot, used_free
 pub use Rattle.directory.proofs.SearchSteps.{search_some}
 pub use Rattle.directory.proofs.Searches.{dead_finds, finds_first}
 pub use Rattle.directory.proofs.SlotRows.{no_slot, gap_ends, gap_goes, gap_stops, placed_ends, placed_goes, placed_stops, that_goes, that_here, without_ends, without_goes, without_stops}
-pub use Rattle.directory.proofs.Spelled.{dots_in_front, spelled, words_are}
+pub use Rattle.directory.proofs.Spelled.{dots_in_front, dots_long, spelled, words_are}
 pub use Rattle.directory.proofs.Used.{no_used, used_here}
 pub use Rattle.directory.specs.Filling.{dots_in, filled_by}
 pub use Rattle.directory.specs.Searching.{search_asked}

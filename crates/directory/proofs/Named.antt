@@ -1,5 +1,5 @@
 -- A slot compared in its block is compared by what it is.
-use Rattle.directory.proofs.Vocabulary.{◌≡◌, ◌≢◌, ℕ, ◌+◌, ◌-◌, ◌*◌, ◌/◌, ◌<◌, ◌≤◌, true, false, eqb, ◌&&◌, List, ◌++◌, length, drop, get_or, slice_index, replicate, Option, Some, None, refl, sym, ap, ◌∙◌, arith, ⊎_elim, length-append, length-drop, cases_Bool, eqb-false, bytes_eq-Decides, drop_at, get_or-drop, same_number_lists, length-replicate, Version, Dirent, Free, Used, u16_bytes, u16_at, record_at, IsBytes, list_all, is_zero, IsName, spell_dirent, dirent_of, used_of, free_of, dirent_at, which_branch, dirent_of-spell, spell-dirent_of, number-part, name_parts, u16_at-lt, u16_bytes-at, length-u16_bytes, is_named, u64_at, AreWords, word_place, are_words, in_range, dirent_len_of, name_len_of}
+use Rattle.directory.proofs.Vocabulary.{◌≡◌, ◌≢◌, ℕ, ◌+◌, ◌-◌, ◌*◌, ◌/◌, ◌<◌, ◌≤◌, true, false, eqb, List, ◌++◌, length, drop, get_or, slice_index, replicate, Option, Some, None, refl, sym, ap, ◌∙◌, arith, ⊎_elim, length-append, length-drop, cases_Bool, eqb-false, bytes_eq-Decides, drop_at, get_or-drop, same_number_lists, length-replicate, Version, Dirent, Free, Used, u16_bytes, u16_at, record_at, IsBytes, list_all, is_zero, IsName, spell_dirent, dirent_of, used_of, free_of, dirent_at, which_branch, dirent_of-spell, spell-dirent_of, number-part, name_parts, u16_at-lt, u16_bytes-at, length-u16_bytes, is_named, u64_at, AreWords, word_place, are_words, in_range, dirent_len_of, name_len_of}
 use Rattle.directory.proofs.OneSlot.{IsSlot, slot_in, rest_fits}
 use Rattle.directory.proofs.Padded.{padded_at, u64_padded}
 use Rattle.directory.proofs.Words.{same_bytes, u64_at-part, u64_at-drop}

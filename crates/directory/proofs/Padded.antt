@@ -1,5 +1,5 @@
 -- Zeros after bytes: the bytes read alike, and so does a slot whose bytes are kept with zeros after them.
-use Rattle.directory.proofs.Vocabulary.{◌≡◌, ℕ, zero, suc, ◌+◌, ◌-◌, ◌*◌, ◌<◌, ◌≤◌, ◌==◌, ◌&&◌, eqb, not, if◌then◌else◌, List, [], ◌∷◌, ◌++◌, length, take, drop, get_or, replicate, Option, Some, None, refl, sym, ap, ◌∙◌, arith, ⊎_elim, cases_lt, append_assoc, length-append, length-replicate, take_at, take-append-le, drop-append-le, drop-replicate, replicate-append-replicate, get_or-append_right, get_or-drop, get_or_append_left, get_or_past, ne_eqb, and_right, list_all, position_or_len, prefix_len-le-length, little_from, little_number, is_zero, is_name, name_of, free_of, used_of, Dirent, Free, Used, dirent_of, record_at, u16_at, u64_at, all-zeros, position-zeros, true, Version, dirent_len_of, in_range, longest_dirent, kept, on_disk}
+use Rattle.directory.proofs.Vocabulary.{◌≡◌, ℕ, zero, suc, ◌+◌, ◌-◌, ◌*◌, ◌<◌, ◌≤◌, ◌&&◌, not, if◌then◌else◌, List, [], ◌∷◌, ◌++◌, length, take, drop, get_or, replicate, refl, sym, ap, ◌∙◌, arith, ⊎_elim, cases_lt, append_assoc, length-append, length-replicate, take_at, take-append-le, drop-append-le, drop-replicate, replicate-append-replicate, get_or-append_right, get_or-drop, get_or_append_left, get_or_past, list_all, position_or_len, prefix_len-le-length, little_from, is_zero, name_of, free_of, used_of, dirent_of, record_at, u16_at, u64_at, all-zeros, position-zeros, Version, dirent_len_of, in_range, longest_dirent, kept, on_disk}
 use Rattle.directory.proofs.OneSlot.{zeros_at}
 
 -- ---- bytes and words

@@ -1,5 +1,5 @@
 -- The bytes of an entry, written one part after the other, and the words of a name.
-use Rattle.directory.proofs.Vocabulary.{◌≡◌, ℕ, zero, suc, ◌+◌, ◌-◌, ◌*◌, ◌/◌, ◌%◌, ◌<◌, ◌≤◌, List, [], ◌∷◌, ◌++◌, length, take, drop, replicate, sym, ap, ◌∙◌, arith, append_assoc, take_at, length-append, length-replicate, drop-replicate, little_bytes, length-u16_bytes, u16_bytes, Version, u64_at, AreWords, kept, on_disk, longest_dirent, longest_name, name_len_of, new_directory_size_of, dirent_len_of, in_range, spell_dirent, Used, dot, dotdot, dots}
+use Rattle.directory.proofs.Vocabulary.{◌≡◌, ℕ, zero, suc, ◌+◌, ◌-◌, ◌*◌, ◌/◌, ◌%◌, ◌≤◌, List, [], ◌∷◌, ◌++◌, length, take, drop, replicate, sym, ap, ◌∙◌, arith, append_assoc, take_at, length-append, length-replicate, drop-replicate, little_bytes, length-u16_bytes, u16_bytes, Version, u64_at, AreWords, kept, on_disk, longest_dirent, longest_name, name_len_of, new_directory_size_of, dirent_len_of, in_range, spell_dirent, Used, dot, dotdot, dots}
 use Rattle.directory.proofs.Padded.{on_disk_kept, two_rows, u64_padded}
 use Rattle.directory.proofs.Words.{u64_at-drop}
 use borrow.Rule.Slice.PartMut.{put_mid, post_of}
@@ -78,3 +78,10 @@ dots_in_front v n parent len first rest second width one two =
     let short : 2 ≤ name_len_of v = omega (arith, (in_range v).0) in
     in_front v len (spell_dirent v (Used n dot)) (spell_dirent v (Used parent dotdot)) first rest second width
     (length-used v n dot (omega (arith, short))) (length-used v parent dotdot short) one two
+
+pub dots_long : (v : Version) (n parent : ℕ) → length (dots v n parent) ≡ new_directory_size_of v
+dots_long v n parent =
+    let short : 2 ≤ name_len_of v = omega (arith, (in_range v).0) in
+    let one : List ℕ = spell_dirent v (Used n dot) in
+    let two : List ℕ = spell_dirent v (Used parent dotdot) in
+    omega (arith, length-append one two, length-used v n dot (omega (arith, short)), length-used v parent dotdot short)

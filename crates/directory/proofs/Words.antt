@@ -1,5 +1,5 @@
 -- Bytes compared by words.
-use Rattle.directory.proofs.Vocabulary.{◌≡◌, ◌≢◌, ℕ, zero, suc, ◌+◌, ◌-◌, ◌*◌, ◌<◌, ◌≤◌, List, length, take, drop, get_or, sym, ap, ◌∙◌, arith, ⊎_elim, cases_eq, cases_lt, same_number_lists, drop-drop, drop-take, get_or-drop, little_from, little_number, little_from-take, IsBytes, u64_at}
+use Rattle.directory.proofs.Vocabulary.{◌≡◌, ◌≢◌, ℕ, zero, suc, ◌+◌, ◌-◌, ◌*◌, ◌<◌, ◌≤◌, List, take, drop, get_or, ap, ◌∙◌, arith, ⊎_elim, cases_eq, drop-drop, drop-take, little_from, little_number, little_from-take, IsBytes, u64_at}
 
 same_digit : (a b r s : ℕ) → a < 256 → b < 256 → a + 256 * r ≡ b + 256 * s → (a ≡ b) × (r ≡ s)
 same_digit a b r s ha hb e = (omega arith, omega arith)

@@ -1,5 +1,5 @@
 -- The names of a new directory, written.
-use Rattle.std.specs.Prelude.{ℕ, ◌==◌, List, ◌++◌, take}
+use Rattle.std.specs.Prelude.{ℕ, ◌==◌, List, ◌++◌}
 use Rattle.directory.specs.Vocabulary.{Dinode, Super, Version, Used, spell_dirent, new_directory_size_of, dot, dotdot, Ret, bind, P, WriteResult, write_part, Hand, Op, write_left, write_asked, WriteReady}
 use Rattle.directory.specs.declared.fill.Fill.{Fill}
 use Rattle.directory.specs.declared.fill.Filled.{Filled}
@@ -19,9 +19,9 @@ filled_by v w = Ret (filled_in v w)
 abbrev pub fill : Super → (n : ℕ) → Dinode → (parent : ℕ) → P Filled
 fill sizes n d parent = bind (write_part sizes n d 0 (dots sizes.version n parent)) (filled_by sizes.version)
 
--- its bytes on the disk, of those that it has room for
+-- the bytes that it writes
 abbrev pub dots_in : Fill → List ℕ
-dots_in m = take (new_directory_size_of m.version) m.bytes
+dots_in m = dots m.version m.number m.parent
 
 abbrev pub fill_left : Fill → Hand → P Filled
 fill_left m h = bind (write_left (dots_in m) m.part h) (filled_by m.version)

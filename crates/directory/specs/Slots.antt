@@ -41,7 +41,7 @@ u64_at bytes at = little_number 8 (drop at bytes)
 abbrev pub most_words : ℕ
 most_words = longest_dirent / 8
 
--- where word i of a slot with a name is: the first begins with the name, the others are the slot's
+-- the place of word i in a slot with a name: the first begins with the name, the others are the slot's
 abbrev pub word_place : ℕ → ℕ
 word_place i = max dirent_name_at (8 * i)
 

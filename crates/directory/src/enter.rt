@@ -50,7 +50,7 @@ pub struct Placing {
     pub version: Version,
     pub seat: InodePlace,
     pub entry: [u8; LONGEST_DIRENT_LEN],
-    pub slot: usize,
+    pub slot: u32,
 }
 
 /// The directory as it was stored, and whether there was room for the name. If no slot was left it is as it was, and
@@ -183,7 +183,7 @@ fn place(entering: &Entering, found: Option<Found>, hand: &Hand) -> Begun<Enter,
         version,
         seat,
         entry: entering.entry,
-        slot,
+        slot: slot as u32,
     };
     Begun::Runs(Enter::Writing(placing, part))
 }
@@ -219,8 +219,9 @@ fn room_in(placing: &Placing, written: &Written, hand: &mut Hand) -> Entered
     ensures hand { bare hand.new ≡ bare hand.old }
 {
     let (version, seat) = (placing.version, placing.seat);
-    let room = if written.upto == version.dirent_len() * (placing.slot + 1) {
-        enter_at(version, hand, seat, placing.slot, entry_in(placing));
+    let slot = placing.slot as usize;
+    let room = if written.upto == version.dirent_len() * (slot + 1) {
+        enter_at(version, hand, seat, slot, entry_in(placing));
         Room::There
     } else {
         Room::NoBlock

@@ -25,8 +25,8 @@ pub struct Filled {
 #[derive(Drop)]
 pub struct Fill {
     pub version: Version,
-    /// The two entries, at the front.
-    pub bytes: [u8; LONGEST_DOTS],
+    pub number: u32,
+    pub parent: u32,
     pub part: WritePart,
 }
 
@@ -41,7 +41,8 @@ impl Fill {
         let version = sizes.version;
         Fill {
             version,
-            bytes: dots(version, number, parent),
+            number,
+            parent,
             part: WritePart::begin(number, inode, sizes, 0, version.new_directory_size()),
         }
     }
@@ -69,15 +70,17 @@ impl Routine for Fill {
     ghost Ends = { λ _ _ h. NoBuffers h };
 
     fn op(&self, hand: &mut Hand) -> Op {
+        let bytes = dots(self.version, self.number, self.parent);
         self.part
-            .op(&self.bytes[..self.version.new_directory_size()], hand)
+            .op(&bytes[..self.version.new_directory_size()], hand)
     }
 
     #[tactic(auto, using(fs_machine::proofs::Going::goes_bind))]
     fn next(&mut self, answer: &Answer, hand: &mut Hand) -> Option<Filled> {
         let version = self.version;
-        let bytes = &self.bytes[..version.new_directory_size()];
-        let written = self.part.next(bytes, answer, hand)?;
+        let bytes = dots(version, self.number, self.parent);
+        let names = &bytes[..version.new_directory_size()];
+        let written = self.part.next(names, answer, hand)?;
         Some(whole_in(version, &written))
     }
 }

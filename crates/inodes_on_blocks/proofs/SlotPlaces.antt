@@ -8,7 +8,7 @@ use Rattle.image_versions.specs.Shared.{block_len}
 use Rattle.image_versions.specs.Versions.{dirent_len_of, dirents_per_block_of}
 use Rattle.image_versions.proofs.Places.{in_range, in_their_blocks, inside, lie_apart}
 
--- a slot is told by its block and its place there
+-- a slot's block and its place there say which slot it is
 pub are_places : (v : Version) (s q : ℕ) → s / dirents_per_block_of v ≡ q / dirents_per_block_of v
     → s % dirents_per_block_of v ≡ q % dirents_per_block_of v → s ≡ q
 are_places v s q block place =
@@ -38,8 +38,8 @@ more_bytes v p q le =
     omega (arith, e))
     (cases_lt p q)
 
--- One slot put among the first n, or after them: as many bytes as there are slots then, and none of them in other
--- blocks than the slot's that weren't there before.
+-- One slot is put among the first n, or after them. Then there are as many bytes as slots, and those that weren't there
+-- before are in the slot's own block.
 pub one_grows : (v : Version) (n s : ℕ) → s ≤ n
     → (max (dirent_len_of v * n) (dirent_len_of v * suc s) ≡ dirent_len_of v * max n (suc s))
     × ((k : ℕ) → block_len * k < max (dirent_len_of v * n) (dirent_len_of v * suc s) → k ≢ s / dirents_per_block_of v
