@@ -3,29 +3,27 @@ use Rattle.std.specs.Prelude.{◌≡◌, ◌⊎◌, ℕ, true, false, List}
 use Rattle.std.proofs.Common.{refl}
 use Rattle.explain.proofs.Vocabulary.{inl, inr, subst, ◌∙◌, any_climbs, blocks_of, Came, Event, Explains, Placed, RunOn, never, trace_in, tree_in}
 use Rattle.explain.proofs.Running.{none_climbs}
-use Rattle.explain.specs.Explained.{EachFoundRoom, FindsNoRoom, HasClimbed, IsOneOf, NeverFoundRoom, OwnsRun, RoomIn}
+use Rattle.explain.specs.Explained.{EachFoundRoom, FindsNoRoom, HasClimbed, IsOneOf, NeverFoundRoom, OwnsRun}
 use Rattle.explain.specs.OneRun.{Agree, AnyRunsAgree, HoldsOfEach, ListsAreOfEachRun, RefusalsAreOfEachRun}
 use Rattle.explain.specs.Vocabulary.{Call, EventOf, Outside, any_full, version_in}
 use Rattle.run_laws.proofs.Agreeing.{runs_on_one_image_agree}
 use Rattle.run_laws.proofs.OneList.{runs_have_one_list}
-use Rattle.run_laws.specs.Agreeing.{IsRunOn}
-use Rattle.run_laws.specs.OneList.{list_of}
+use Rattle.run_laws.specs.Agreeing.{IsRunOn, RunsAgree}
 
 module _ (image : List ℕ) (events : List Event) where
-  run_on : (r : RunOn image events) (a : List (EventOf Call Outside)) → IsOneOf image events r a
+  abbrev run_on : (r : RunOn image events) (a : List (EventOf Call Outside)) → IsOneOf image events r a
       → IsRunOn blocks_of never (blocks_of image) r.world events r.outcomes a
   run_on r a is = record { device = image; blocks = refl; mounted = r.starts.mounted; new = r.new; is = is; unfailed = refl }
 
   agree : (one other : RunOn image events) → Agree image events one other
   agree one other = record {
-    outcomes = (both one.history.0 other.history.0 one.history.1 other.history.1).0;
-    lists = λ a b is by. (both a b is by).1;
-    room = λ a b is by. (both a b is by).2;
+    outcomes = (both one.history.0 other.history.0 one.history.1 other.history.1).outcomes;
+    lists = λ a b is by. (both a b is by).lists;
+    room = λ a b is by. (both a b is by).room;
   }
     where
       both : (a b : List (EventOf Call Outside)) → IsOneOf image events one a → IsOneOf image events other b
-          → (one.outcomes ≡ other.outcomes) × (list_of blocks_of never one.world a ≡ list_of blocks_of never other.world b)
-          × (RoomIn image events one a → RoomIn image events other b)
+          → RunsAgree blocks_of never one.world other.world one.outcomes other.outcomes a b one.new other.new
       both a b is by =
           runs_on_one_image_agree blocks_of never one.world other.world (blocks_of image) events one.outcomes other.outcomes a b (run_on one a is) (run_on other b by)
 

@@ -1,5 +1,5 @@
--- Any two runs of the same events on one image have the same outcomes and one list, as long as the device doesn't fail.
-use Rattle.run_laws.proofs.Vocabulary.{◌≡◌, inl, inr, ℕ, ◌+◌, ◌<◌, ◌≤◌, List, [], ◌∷◌, length, map, refl, sym, ◌∙◌, ap, subst, arith, cases_lt, None, replicate, Super, Version, sizes_of, tree_of, TreeData, at_rest, Reply, Call, EventOf, State, AllHonest, Sound, fresh, outcomes, run, Plain, OutcomeOf, Started, WasRefused as Refused, WasIdle, DidWait, DidRun, DidEnd, DidStop, WasStopped, all_by_kind, erase, plain_outcomes, plain_run, erase-outcomes, erase-run, Outside, Refusal, History, nothing_yet, history_of, block_moves, first, block_calls, block_code, is_code, served_calls, Event, AllAnswer, IsHistory, outcomes_of, WorldOf, calls_of, mountable, rests_erased, all_honest, first_sound, version_in}
+-- Any two runs of the same events on one image agree, as long as the device doesn't fail.
+use Rattle.run_laws.proofs.Vocabulary.{◌≡◌, inl, inr, ℕ, ◌+◌, ◌<◌, ◌≤◌, List, [], ◌∷◌, length, map, HartsOf, refl, sym, ◌∙◌, ap, subst, arith, cases_lt, None, replicate, Super, Version, sizes_of, tree_of, TreeData, at_rest, Reply, Call, EventOf, State, AllHonest, Sound, fresh, outcomes, run, Plain, OutcomeOf, Started, WasRefused as Refused, WasIdle, DidWait, DidRun, DidEnd, DidStop, WasStopped, all_by_kind, erase, plain_outcomes, plain_run, erase-outcomes, erase-run, Outside, Refusal, History, nothing_yet, history_of, block_moves, first, block_calls, block_code, is_code, served_calls, Event, AllAnswer, IsHistory, outcomes_of, WorldOf, calls_of, mountable, rests_erased, all_honest, first_sound, version_in}
 use Rattle.block_device.specs.Blocks.{HasWholeBlocks, block_at}
 use Rattle.block_device.specs.BlockLaws.{length-block_at}
 use Rattle.buffer_cache.specs.Limits.{buffer_count, hart_count}
@@ -8,11 +8,11 @@ use Rattle.std.proofs.lemmas.List.{get_or_past}
 use Rattle.fs_layout.proofs.RecoveredDisk.{recovered-empty}
 use Rattle.fs_layout.specs.Recovered.{IsOutsideLog}
 use Rattle.fs_machine.specs.Fresh as tables
+use Rattle.fs_machine.specs.Steps as steps
 use Rattle.fs_machine.specs.declared.kind.Kind.{Kind}
 use Rattle.group_log.specs.declared.phase.Phase.TheVariants.{Open}
 use Rattle.hart_core.specs.Events.{came_of}
 use Rattle.hart_core.specs.Mounting.{IsSettled}
-use Rattle.hart_core.specs.Runs.{FoundRoom}
 use Rattle.hart_core.specs.declared.events.Came.{Came}
 use Rattle.hart_core.specs.declared.events.Came.TheVariants as came
 use Rattle.hart_core.specs.declared.outcome.Outcome.TheVariants as outcome
@@ -26,9 +26,8 @@ use Rattle.inode_machine.specs.Theory as refusals
 use Rattle.inode_machine.specs.World as above
 use Rattle.inodes_on_blocks.specs.Mounted.{first_world, mounted, resting_state}
 use Rattle.run_laws.proofs.AlikeLogs.{AgreeApart, state_over}
-use Rattle.run_laws.proofs.AlikeRuns.{Alike, Unfailed, runs_alike}
-use Rattle.run_laws.specs.Agreeing.{IsRunOn, RunsOnOneImageAgree}
-use Rattle.run_laws.specs.OneList.{list_of}
+use Rattle.run_laws.proofs.AlikeRuns.{Alike, RunsAlike, runs_alike}
+use Rattle.run_laws.specs.Agreeing.{IsRunOn, RunsAgree, RunsOnOneImageAgree}
 
 -- ---- outcomes in the words of the calls say which they are
 
@@ -105,11 +104,11 @@ module _ {D : Type 0} (contents : D → List (List ℕ)) (failures : D → ℕ) 
   start_of sizes w = fresh (block_calls sizes) (first (disk_of w) (count_of w))
 
   -- a run in the theory, at these sizes
-  record RunAt (sizes : Super) (w : WorldOf D) (events : List Event) (cs : List Came) (history : List (EventOf Call Outside)) : Type 0 where
+  record RunAt (sizes : Super) (w : WorldOf D) (cs : List Came) (history : List (EventOf Call Outside)) (new : HartsOf D) : Type 0 where
     pub honest : AllHonest (block_calls sizes) history (start_of sizes w)
     pub sound : Sound (block_calls sizes) (start_of sizes w)
     pub came_is : all_by_kind (block_calls sizes) (block_code sizes) (outcomes (block_calls sizes) history (start_of sizes w)) ≡ outcomes_of cs
-    pub unfailed : Unfailed sizes (run (block_calls sizes) history (start_of sizes w))
+    pub ends : erase (block_calls sizes) (block_code sizes) (run (block_calls sizes) history (start_of sizes w)) ≡ calls_of contents failures sizes new
 
   module _ (w : WorldOf D) (events : List Event) (cs : List Came) (history : List (EventOf Call Outside)) (on : IsRunOn contents failures image w events cs history) where
     settled : IsSettled image (disk_of w)
@@ -130,7 +129,7 @@ module _ {D : Type 0} (contents : D → List (List ℕ)) (failures : D → ℕ) 
     within : (sizes_of image).logstart + (sizes_of image).nlog ≤ length (disk_of w)
     within = subst (λ (z : Super). z.logstart + z.nlog ≤ length (disk_of w)) (ap sizes_of on.blocks) on.mounted.rests.placed.within
 
-    run_at : (sizes : Super) → sizes ≡ w.sizes → RunAt sizes w events cs history
+    run_at : (sizes : Super) → sizes ≡ w.sizes → RunAt sizes w cs history on.new
     run_at sizes same =
         let here : sizes ≡ sizes_of (disk_of w) = same ∙ sizes_are ∙ sym settled.sizes in
         let is = subst (λ (z : Super). IsHistory contents failures z w.harts events cs on.new history) (sym same) on.is in
@@ -145,11 +144,9 @@ module _ {D : Type 0} (contents : D → List (List ℕ)) (failures : D → ℕ) 
           came_is =
               sym (erase-outcomes (block_calls sizes) (block_code sizes) (is_code sizes) history (start_of sizes w))
               ∙ ap (plain_outcomes (block_calls sizes) (block_code sizes) history) begins_so ∙ is.comes_to;
-          unfailed =
-              ap (λ (p : Plain (block_calls sizes) (block_code sizes)). p.shared.state.log.failures)
-              (sym (erase-run (block_calls sizes) (block_code sizes) (is_code sizes) history (start_of sizes w))
-              ∙ ap (plain_run (block_calls sizes) (block_code sizes) history) begins_so ∙ is.makes)
-              ∙ on.unfailed;
+          ends =
+              sym (erase-run (block_calls sizes) (block_code sizes) (is_code sizes) history (start_of sizes w))
+              ∙ ap (plain_run (block_calls sizes) (block_code sizes) history) begins_so ∙ is.makes;
         }
 
   -- ---- two of them
@@ -202,21 +199,48 @@ module _ {D : Type 0} (contents : D → List (List ℕ)) (failures : D → ℕ) 
     same_sizes : w.sizes ≡ v.sizes
     same_sizes = sizes_are w events cs one on ∙ sym (sizes_are v events ds two by)
 
-    they_agree : (cs ≡ ds) × (list_of contents failures w one ≡ list_of contents failures v two)
-        × (FoundRoom contents failures w one → FoundRoom contents failures v two)
-    they_agree =
-        let first_run = run_at w events cs one on w.sizes refl in
-        let other_run = run_at v events ds two by w.sizes same_sizes in
-        let alike = runs_alike w.sizes one two (start_of w.sizes w) (start_of w.sizes v) nothing_yet first_run.sound first_run.honest (alike_at_first w.sizes)
-        (on.is.asks ∙ sym by.is.asks) first_run.unfailed other_run.unfailed in
-        let came_same : outcomes_of cs ≡ outcomes_of ds =
-        sym first_run.came_is ∙ ap (all_by_kind (block_calls w.sizes) (block_code w.sizes)) alike.came ∙ other_run.came_is in (
-          sym (all_back cs) ∙ ap (map came_back) came_same ∙ all_back ds,
-          ap (λ (b : History). b.list) alike.list ∙ ap (λ (z : Super). history_of z.version (block_moves z) (first (disk_of v) (count_of v)) two) same_sizes,
-          λ clean.
-              subst (λ (z : Super). (block_calls z).M.Clean (run (block_calls z) two (start_of z v)).world) same_sizes
-              (subst (served_calls w.sizes.version).M.Clean alike.seen clean),
-        )
+    abbrev Programs : Type 0
+    Programs = Plain (block_calls w.sizes) (block_code w.sizes)
+
+    first_run : RunAt w.sizes w cs one on.new
+    first_run = run_at w events cs one on w.sizes refl
+
+    other_run : RunAt w.sizes v ds two by.new
+    other_run = run_at v events ds two by w.sizes same_sizes
+
+    runs : RunsAlike w.sizes one two (start_of w.sizes w) (start_of w.sizes v) nothing_yet
+    runs =
+        runs_alike w.sizes one two (start_of w.sizes w) (start_of w.sizes v) nothing_yet first_run.sound first_run.honest (alike_at_first w.sizes)
+        (on.is.asks ∙ sym by.is.asks)
+        (ap (λ (p : Programs). p.shared.state.log.failures) first_run.ends ∙ on.unfailed)
+        (ap (λ (p : Programs). p.shared.state.log.failures) other_run.ends ∙ by.unfailed)
+
+    came_same : outcomes_of cs ≡ outcomes_of ds
+    came_same = sym first_run.came_is ∙ ap (all_by_kind (block_calls w.sizes) (block_code w.sizes)) runs.came ∙ other_run.came_is
+
+    -- the blocks of the second run's end
+    last_is : runs.ends.1.states.disk ≡ contents by.new.core.log.cache.device
+    last_is =
+        ap (λ (z : steps.State). z.log.contents) runs.ends.1.states.is
+        ∙ ap (λ (z : State (block_calls w.sizes)). z.world.real.blocks.state.log.contents) runs.ends.2
+        ∙ ap (λ (p : Programs). p.shared.state.log.contents) other_run.ends
+
+    ends_agree : (b : ℕ) → IsOutsideLog on.new.core.log.sizes b
+        → block_at (contents by.new.core.log.cache.device) b ≡ block_at (contents on.new.core.log.cache.device) b
+    ends_agree b out =
+        ap (λ (d : List (List ℕ)). block_at d b) (sym last_is)
+        ∙ runs.ends.1.states.agree.same b (subst (λ (z : Super). IsOutsideLog z b) (sym (ap (λ (p : Programs). p.shared.state.log.sizes) first_run.ends)) out)
+        ∙ ap (λ (p : Programs). block_at p.shared.state.log.contents b) first_run.ends
+
+    they_agree : RunsAgree contents failures w v cs ds one two on.new by.new
+    they_agree = record {
+      outcomes = sym (all_back cs) ∙ ap (map came_back) came_same ∙ all_back ds;
+      lists = ap (λ (b : History). b.list) runs.list ∙ ap (λ (z : Super). history_of z.version (block_moves z) (first (disk_of v) (count_of v)) two) same_sizes;
+      room = λ clean.
+          subst (λ (z : Super). (block_calls z).M.Clean (run (block_calls z) two (start_of z v)).world) same_sizes
+          (subst (served_calls w.sizes.version).M.Clean (ap (λ (z : State (block_calls w.sizes)). z.world.seen) runs.ends.2) clean);
+      blocks = ends_agree;
+    }
 
 pub runs_on_one_image_agree : {D : Type 0} (contents : D → List (List ℕ)) (failures : D → ℕ) (w v : WorldOf D) → RunsOnOneImageAgree contents failures w v
 runs_on_one_image_agree contents failures w v image events cs ds one two on by = they_agree contents failures image w v events cs ds one two on by

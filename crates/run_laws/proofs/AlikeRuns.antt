@@ -249,12 +249,12 @@ module _ (sizes : Super) where
   pub record RunsAlike (a b : List (Event Call Outside)) (s t : State (block_calls sizes)) (k : History) : Type 0 where
     pub list : kept sizes.version (block_moves sizes) a s k ≡ kept sizes.version (block_moves sizes) b t k
     pub came : ◌≡◌ {A = List (EventOutcome (block_calls sizes))} (outcomes (block_calls sizes) a s) (outcomes (block_calls sizes) b t)
-    pub seen : (run (block_calls sizes) a s).world.seen ≡ (run (block_calls sizes) b t).world.seen
+    pub ends : Alike (run (block_calls sizes) a s) (run (block_calls sizes) b t)
 
   pub runs_alike : (a b : List (Event Call Outside)) (s t : State (block_calls sizes)) (k : History) → Sound (block_calls sizes) s
       → AllHonest (block_calls sizes) a s → Alike s t → all_asked a ≡ all_asked b
       → Unfailed (run (block_calls sizes) a s) → Unfailed (run (block_calls sizes) b t) → RunsAlike a b s t k
-  runs_alike [] [] s t k sound honest alike same one two = record { list = refl; came = refl; seen = ap (λ (z : State L). z.world.seen) alike.2 }
+  runs_alike [] [] s t k sound honest alike same one two = record { list = refl; came = refl; ends = alike }
   runs_alike [] (f ∷ b) s t k sound honest alike same one two = absurd cc
   runs_alike (e ∷ a) [] s t k sound honest alike same one two = absurd cc
   runs_alike (e ∷ a) (f ∷ b) s t k sound honest alike same one two =
@@ -267,7 +267,7 @@ module _ (sizes : Super) where
             record {
               list = rest.list ∙ ap (kept sizes.version N b (next L f t)) (out.2 k);
               came = λ i. out.1 i ∷ rest.came i;
-              seen = rest.seen;
+              ends = rest.ends;
             }
         | inr broke ↦ elim broke [
           | inl first_broke ↦ absurd ((still a (next L e s) first_broke).1 one)
