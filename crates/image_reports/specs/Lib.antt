@@ -1,0 +1,6 @@
+pub mod Vocabulary
+pub mod Paths
+pub mod Shown
+pub mod Lines
+pub mod Listing
+pub mod Faults

@@ -1,0 +1,18 @@
+-- What the crates below call things: the words that this crate's definitions and contracts use.
+pub use Rattle.std.specs.Io.KnownBytes.{Appends}
+pub use Rattle.std.specs.List.{flat_map, list_all}
+pub use Rattle.block_device.specs.Blocks.{blocks_of}
+pub use Rattle.fs_layout.specs.Recovered.{version_in}
+pub use Rattle.image_versions.specs.declared.version.Version.{Version}
+pub use Rattle.image_tree.specs.Damage.{IsWellFormed, JudgesFault, JudgesWith}
+pub use Rattle.image_tree.specs.Trees.{tree_in}
+pub use Rattle.image_tree.specs.declared.fault.MountFault.{MountFault}
+pub use Rattle.image_tree.specs.declared.fault.MountFault.TheVariants.{Damaged, DeviceFault, NoMemory}
+pub use Rattle.plain_tree.specs.Steps.{size_of}
+pub use Rattle.plain_tree.specs.Tree.{all_slots, elements, tree_of}
+unfoldable pub use Rattle.plain_tree.specs.Tree.{follow}
+pub use Rattle.plain_tree.specs.Widths.{root}
+pub use Rattle.plain_tree.specs.declared.node.Node.{Node}
+pub use Rattle.plain_tree.specs.declared.node.NodeKind.{NodeKind}
+pub use Rattle.plain_tree.specs.declared.node.NodeKind.TheVariants.{Device, Directory, File}
+pub use Rattle.plain_tree.specs.declared.node.Slot.{Slot}

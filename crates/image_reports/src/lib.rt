@@ -1,0 +1,22 @@
+//! Reports about an image: the tree that it holds as lines, and the bytes of its files.
+//!
+//! An image is examined first, and only read. A path begins at the root, with a '/' or without.
+#![tactic(auto)]
+
+mod fault;
+mod file;
+mod item;
+mod line;
+mod listing;
+mod opened;
+mod paths;
+mod rows;
+mod shown;
+mod walk;
+
+pub use crate::fault::ReportFault;
+pub use crate::file::content_at;
+pub use crate::item::Item;
+pub use crate::listing::list;
+pub use crate::opened::{Opened, open_image};
+pub use crate::walk::write_below;
