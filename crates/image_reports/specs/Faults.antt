@@ -1,7 +1,8 @@
 -- Why there is no report, and what is said of an image otherwise.
-use Rattle.std.specs.Prelude.{◌≡◌, ℕ, List, Option, Some, None, ⊤}
-use Rattle.image_reports.specs.Vocabulary.{Damaged, Device, DeviceFault, Directory, File, IsWellFormed, JudgesFault, MountFault, NoMemory, Node, NodeKind, tree_in, tree_of, version_in}
+use Rattle.std.specs.Prelude.{◌≡◌, ℕ, List, Option, None, ⊤}
+use Rattle.image_reports.specs.Vocabulary.{Damaged, DeviceFault, IsWellFormed, JudgesFault, MountFault, NoMemory, tree_in, version_in}
 use Rattle.image_reports.specs.Paths.{number_at}
+use Rattle.image_reports.specs.Files.{IsNoFileOf}
 use Rattle.image_reports.specs.declared.fault.ReportFault.{ReportFault}
 use Rattle.image_reports.specs.declared.fault.ReportFault.TheVariants.{Image, Memory, NoFile, NoPath, TooLong, Write}
 use Rattle.image_reports.specs.declared.opened.Opened.{Opened}
@@ -16,33 +17,6 @@ pub record IsOpened (disk : List (List ℕ)) (opened : Opened) : Type 0 where
   pub good : IsWellFormed (version_in disk) disk
   pub version : opened.version ≡ version_in disk
   pub tree : opened.tree ≡ tree_in (version_in disk) disk
-
-abbrev pub bytes_of_kind : NodeKind → Option (List ℕ)
-bytes_of_kind (Directory slots) = None
-bytes_of_kind (File bytes) = Some bytes
-bytes_of_kind (Device major minor size) = None
-
--- the bytes of a node, if it is a file
-abbrev pub bytes_of_node : Option Node → Option (List ℕ)
-bytes_of_node None = None
-bytes_of_node (Some node) = bytes_of_kind node.kind
-
-abbrev pub bytes_at : List (List ℕ) → ℕ → Option (List ℕ)
-bytes_at disk number = bytes_of_node ((tree_of (tree_in (version_in disk) disk)).nodes number)
-
--- the image is well formed, and the path leads to a file with these bytes
-pub record IsFileOf (disk : List (List ℕ)) (path bytes : List ℕ) : Type 0 where
-  pub good : IsWellFormed (version_in disk) disk
-  pub number : ℕ
-  pub there : number_at disk path ≡ Some number
-  pub content : bytes_at disk number ≡ Some bytes
-
--- the image is well formed, and the path leads to a node that is no file
-pub record IsNoFileOf (disk : List (List ℕ)) (path : List ℕ) : Type 0 where
-  pub good : IsWellFormed (version_in disk) disk
-  pub number : ℕ
-  pub there : number_at disk path ≡ Some number
-  pub content : bytes_at disk number ≡ None
 
 -- a damage is the image's first; a path that is refused leads nowhere, or to no file
 abbrev pub Refuses : List (List ℕ) → List ℕ → ReportFault → Type 0
@@ -61,3 +35,12 @@ IsOfWriting NoFile = ⊥
 IsOfWriting (Write error) = ⊤
 IsOfWriting TooLong = ⊤
 IsOfWriting Memory = ⊤
+
+-- a refused image or path writes nothing
+abbrev pub IsSilent : Option (List ℕ) → Option (List ℕ) → ReportFault → Type 0
+IsSilent out out' (Image fault) = out' ≡ out
+IsSilent out out' NoPath = out' ≡ out
+IsSilent out out' NoFile = out' ≡ out
+IsSilent out out' (Write error) = ⊤
+IsSilent out out' TooLong = ⊤
+IsSilent out out' Memory = ⊤

@@ -3,4 +3,5 @@ pub mod Paths
 pub mod Shown
 pub mod Lines
 pub mod Listing
+pub mod Files
 pub mod Faults

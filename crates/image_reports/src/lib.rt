@@ -15,7 +15,7 @@ mod shown;
 mod walk;
 
 pub use crate::fault::ReportFault;
-pub use crate::file::content_at;
+pub use crate::file::{content_at, get};
 pub use crate::item::Item;
 pub use crate::listing::list;
 pub use crate::opened::{Opened, open_image};

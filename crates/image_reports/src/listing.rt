@@ -1,7 +1,7 @@
 //! The listing of an image.
 ghost use Rattle.std.specs.Prelude.{OnOk, IfErr};
 ghost use Rattle.image_reports.specs.Vocabulary.{blocks_of};
-ghost use Rattle.image_reports.specs.Faults.{Refuses};
+ghost use Rattle.image_reports.specs.Faults.{IsSilent, Refuses};
 ghost use Rattle.image_reports.specs.Listing.{ListsImage};
 
 use crate::fault::ReportFault;
@@ -23,6 +23,7 @@ pub fn list<W: Write>(
 ) -> Result<(), ReportFault>
     ensures lists { OnOk result (ListsImage (blocks_of image.items) path.now long (W.contents out.old) (W.contents out.new)) }
     ensures refused { IfErr result (Refuses (blocks_of image.items) path.now) }
+    ensures silent { IfErr result (IsSilent (W.contents out.old) (W.contents out.new)) }
 {
     let Opened { version, tree } = open_image(alloc, image)?;
     let Some(number) = resolve(&tree, version, path) else {
