@@ -1,3 +1,4 @@
 pub mod Appending
 pub mod Pending
 pub mod Walking
+pub mod Counting

@@ -27,6 +27,15 @@ Refuses disk path (Write error) = ⊤
 Refuses disk path TooLong = ⊤
 Refuses disk path Memory = ⊤
 
+-- a damage is the image's first, and nothing is said of a path
+abbrev pub RefusesImage : List (List ℕ) → ReportFault → Type 0
+RefusesImage disk (Image fault) = JudgesFault (version_in disk) disk fault
+RefusesImage disk NoPath = ⊥
+RefusesImage disk NoFile = ⊥
+RefusesImage disk (Write error) = ⊤
+RefusesImage disk TooLong = ⊤
+RefusesImage disk Memory = ⊤
+
 -- it is no refusal of the image or of the path
 abbrev pub IsOfWriting : ReportFault → Type 0
 IsOfWriting (Image fault) = ⊥

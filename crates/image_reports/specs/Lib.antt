@@ -5,3 +5,4 @@ pub mod Lines
 pub mod Listing
 pub mod Files
 pub mod Faults
+pub mod Usage

@@ -16,3 +16,13 @@ pub use Rattle.plain_tree.specs.declared.node.Node.{Node}
 pub use Rattle.plain_tree.specs.declared.node.NodeKind.{NodeKind}
 pub use Rattle.plain_tree.specs.declared.node.NodeKind.TheVariants.{Device, Directory, File}
 pub use Rattle.plain_tree.specs.declared.node.Slot.{Slot}
+pub use Rattle.std.specs.Prelude.{filter}
+pub use Rattle.fs_layout.specs.declared.inode.Dinode.{Dinode}
+unfoldable pub use Rattle.fs_layout.specs.Recovered.{sizes_of}
+pub use Rattle.image_tree.specs.Checks.{HasGoodNumbers, is_marked}
+pub use Rattle.image_tree.specs.Inodes.{is_block, is_live, last, named_by}
+unfoldable pub use Rattle.image_tree.specs.Inodes.{inode_of}
+pub use Rattle.image_tree.specs.Layout.{IsLayout}
+unfoldable pub use Rattle.image_tree.specs.Lists.{count_upto, gathered}
+pub use Rattle.image_tree.specs.Shape.{is_live_node, is_orphan}
+pub use Rattle.fs_layout.specs.Bits.{bit_of}

@@ -12,6 +12,7 @@ mod opened;
 mod paths;
 mod rows;
 mod shown;
+mod usage;
 mod walk;
 
 pub use crate::fault::ReportFault;
@@ -19,4 +20,5 @@ pub use crate::file::{content_at, get};
 pub use crate::item::Item;
 pub use crate::listing::list;
 pub use crate::opened::{Opened, open_image};
+pub use crate::usage::{Usage, find_usage, write_usage};
 pub use crate::walk::write_below;
