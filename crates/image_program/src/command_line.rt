@@ -19,6 +19,9 @@ pub const LIST: &str = "list";
 /// A file's bytes.
 pub const GET: &str = "get";
 
+/// What blocks and inodes are used for.
+pub const USAGE: &str = "usage";
+
 /// The image.
 pub const IMAGE: &str = "image";
 
@@ -53,7 +56,12 @@ fn list<'a>(alloc: Global) -> Result<Command<'a>, AllocError> {
     Command::new(alloc, LIST)
         .about("Prints a line for each name of the tree, or of what is at PATH and below it")
         .arg(image(alloc))?
-        .arg(positional(alloc, PATH, "PATH", "Where to begin; the root if there is none"))?
+        .arg(positional(
+            alloc,
+            PATH,
+            "PATH",
+            "Where to begin; the root if there is none",
+        ))?
         .arg(long(alloc))
 }
 
@@ -70,6 +78,12 @@ fn get<'a>(alloc: Global) -> Result<Command<'a>, AllocError> {
         ))
 }
 
+fn usage<'a>(alloc: Global) -> Result<Command<'a>, AllocError> {
+    Command::new(alloc, USAGE)
+        .about("Counts the blocks and inodes that are used, held, lost and free")
+        .arg(image(alloc))
+}
+
 fn command<'a>(alloc: Global) -> Result<Command<'a>, AllocError> {
     Command::new(alloc, NAME)
         .about("Looks into an image of a file system, and writes nothing to it")
@@ -80,7 +94,8 @@ fn command<'a>(alloc: Global) -> Result<Command<'a>, AllocError> {
         .disable_help_subcommand(true)
         .bin_name(NAME)?
         .subcommand(list(alloc)?)?
-        .subcommand(get(alloc)?)
+        .subcommand(get(alloc)?)?
+        .subcommand(usage(alloc)?)
 }
 
 /// Reads a command line, the program's name first.

@@ -1,4 +1,5 @@
 //! What ends the program.
+use crate::new_file::NewFileRefused;
 use damage_places::Place;
 use image_reports::ReportFault;
 use mkfs::{ImageRefused, WordsRefused};
@@ -29,7 +30,7 @@ pub enum Fault<'a> {
     Report(ReportFault),
     /// The new file can't be written.
     #[error("{0:?}: {1}")]
-    File(&'a str, io::Error),
+    File(&'a str, NewFileRefused),
     #[error("no memory")]
     Memory,
 }
@@ -77,11 +78,11 @@ impl<'a> Fault<'a> {
     }
 
     /// What came of writing a new file.
-    pub fn of_file(path: &'a str, error: io::Error) -> Fault<'a> {
-        if error.kind() == io::ErrorKind::OutOfMemory {
-            return Fault::Memory;
+    pub fn of_file(path: &'a str, refused: NewFileRefused) -> Fault<'a> {
+        match refused {
+            NewFileRefused::NoMemory => Fault::Memory,
+            refused => Fault::File(path, refused),
         }
-        Fault::File(path, error)
     }
 
     /// The program's exit status.

@@ -1,5 +1,6 @@
 //! `image list IMAGE [PATH] [--long]`: a line for each name of the image's tree.
 //! `image get IMAGE PATH [FILE]`: a file's bytes.
+//! `image usage IMAGE`: what its blocks and inodes are used for.
 //!
 //! It looks into an image, and never writes to one. Faults are reported in this order: the command line (status 2);
 //! an IMAGE that can't be read or isn't taken, a path that isn't there, and what can't be written (status 1). Want of
@@ -10,13 +11,13 @@ mod command_line;
 mod fault;
 mod new_file;
 
-use crate::command_line::{FILE, IMAGE, LIST, LONG, PATH, options};
+use crate::command_line::{FILE, GET, IMAGE, LIST, LONG, PATH, USAGE, options};
 use crate::fault::Fault;
 use crate::new_file::write_new;
 use clap::ArgMatches;
 use clap::error::ErrorKind;
 use damage_places::find_place_in;
-use image_reports::{content_at, get, list};
+use image_reports::{content_at, get, list, write_usage};
 use mkfs::{read_image, read_words};
 use std::alloc::Global;
 use std::io;
@@ -34,29 +35,49 @@ fn with_place<'a>(alloc: Global, fault: Fault<'a>, image: Option<Vec<u8>>) -> Fa
     }
 }
 
+// Writes the file's bytes to a new file of the host.
+fn get_into<'a>(
+    rt: &HostRuntime,
+    matches: &ArgMatches<'a>,
+    image: Vec<u8>,
+    new: &'a str,
+) -> Result<(), Fault<'a>> {
+    let file = matches.get_str(IMAGE).unwrap_or("");
+    let path = matches.get_str(PATH).unwrap_or("/");
+    let content = content_at(rt.alloc(), image, path.as_bytes()).map_err(|fault| Fault::of_report(
+        file, path, fault,
+    ))?;
+    write_new(rt, new, content.as_slice()).map_err(|error| Fault::of_file(new, error))
+}
+
 // Writes the report that the words ask for.
 fn report<'a, W: Write>(
-    rt: &HostRuntime,
+    alloc: Global,
     name: &str,
     matches: &ArgMatches<'a>,
     image: Vec<u8>,
     out: &mut W,
 ) -> Result<(), Fault<'a>> {
     let file = matches.get_str(IMAGE).unwrap_or("");
+    if name == USAGE {
+        return write_usage(alloc, image, out).map_err(|fault| Fault::of_report(file, "", fault));
+    }
     let path = matches.get_str(PATH).unwrap_or("/");
-    let bytes = path.as_bytes();
-    let done = match (name, matches.get_str(FILE)) {
-        (LIST, _) => list(rt.alloc(), image, bytes, matches.get_flag(LONG), out),
-        (_, None) => get(rt.alloc(), image, bytes, out),
-        (_, Some(new)) => match content_at(rt.alloc(), image, bytes) {
-            Ok(content) => {
-                return write_new(rt, new, content.as_slice())
-                    .map_err(|error| Fault::of_file(new, error));
-            }
-            Err(fault) => Err(fault),
-        },
+    let done = if name == LIST {
+        list(alloc, image, path.as_bytes(), matches.get_flag(LONG), out)
+    } else {
+        get(alloc, image, path.as_bytes(), out)
     };
     done.map_err(|fault| Fault::of_report(file, path, fault))
+}
+
+// The host's file that is to be made, if one is.
+fn file_to_make<'a>(name: &str, matches: &ArgMatches<'a>) -> Option<&'a str> {
+    if name == GET {
+        matches.get_str(FILE)
+    } else {
+        None
+    }
 }
 
 // Reads the image, and does what the words ask for.
@@ -64,10 +85,14 @@ fn run<'a>(rt: &HostRuntime, name: &str, matches: &ArgMatches<'a>) -> Result<(),
     let file = matches.get_str(IMAGE).unwrap_or("");
     let image = read_image(rt, file).map_err(|refused| Fault::of_image(file, refused))?;
     let copy = Vec::from_slice(rt.alloc(), image.bytes.as_slice()).ok();
+    if let Some(new) = file_to_make(name, matches) {
+        let done = get_into(rt, matches, image.bytes, new);
+        return done.map_err(|fault| with_place(rt.alloc(), fault, copy));
+    }
     let mut out = BufWriter::new(rt.alloc(), io::writer(rt)).map_err(|error| Fault::of_answers(
         error,
     ))?;
-    let done = report(rt, name, matches, image.bytes, &mut out);
+    let done = report(rt.alloc(), name, matches, image.bytes, &mut out);
     out.flush().map_err(|error| Fault::of_answers(error))?;
     done.map_err(|fault| with_place(rt.alloc(), fault, copy))
 }

@@ -11,11 +11,15 @@ pub reverse_push : (items : List Item) (item : Item) → reverse (items ++ item 
 reverse_push items item = reverse-append items (item ∷ [])
 
 -- what slot `end` names is put on top of what the later ones name
-pub push_turn : (path : List ℕ) (slots : List (Option Slot)) (end : ℕ) (before now more : List Item) → end < length slots → reverse now ≡ flat_map (named_at path) (drop (end + 1) slots) ++ before → reverse more ≡ named_at path (get_or slots end None) ++ reverse now → reverse more ≡ flat_map (named_at path) (drop end slots) ++ before
+pub push_turn : (path : List ℕ) (slots : List (Option Slot)) (end : ℕ) (before now more : List Item) → end < length slots
+    → reverse now ≡ flat_map (named_at path) (drop (end + 1) slots) ++ before
+    → reverse more ≡ named_at path (get_or slots end None) ++ reverse now
+    → reverse more ≡ flat_map (named_at path) (drop end slots) ++ before
 push_turn path slots end before now more lt had pushed =
     let front : flat_map (named_at path) (drop end slots) ≡ named_at path (get_or slots end None) ++ flat_map (named_at path) (drop (end + 1) slots) =
-        rw add-one (ap (flat_map (named_at path)) (drop-cons slots end None lt)) in
-    pushed ∙ ap (λ l. named_at path (get_or slots end None) ++ l) had ∙ sym (append_assoc (named_at path (get_or slots end None)) (flat_map (named_at path) (drop (end + 1) slots)) before)
+    rw add-one (ap (flat_map (named_at path)) (drop-cons slots end None lt)) in
+    pushed ∙ ap (λ l. named_at path (get_or slots end None) ++ l) had
+    ∙ sym (append_assoc (named_at path (get_or slots end None)) (flat_map (named_at path) (drop (end + 1) slots)) before)
     ∙ ap (λ l. l ++ before) (sym front)
 
 -- the last one is taken off

@@ -17,7 +17,8 @@ below nodes item = flat_map (named_at item.path) (drop 2 (all_slots (nodes item.
 -- the text has each item's line, after it the lines of what is in it, and after these those of the next item
 pub data Lists (v : Version) (nodes : ℕ → Option Node) (long : Bool) : List Item → List ℕ → Type 0 where
   ended : Lists v nodes long [] []
-  item_first : (item : Item) (items : List Item) (inside after : List ℕ) → Lists v nodes long (below nodes item) inside → Lists v nodes long items after → Lists v nodes long (item ∷ items) (line_of v nodes long item ++ inside ++ after)
+  item_first : (item : Item) (items : List Item) (inside after : List ℕ) → Lists v nodes long (below nodes item) inside
+      → Lists v nodes long items after → Lists v nodes long (item ∷ items) (line_of v nodes long item ++ inside ++ after)
 
 -- the writer got the listing from this item on
 pub record Listed (v : Version) (nodes : ℕ → Option Node) (long : Bool) (start : Item) (out out' : Option (List ℕ)) : Type 0 where

@@ -21,10 +21,12 @@ pub fn content_at(alloc: Global, image: Vec<u8>, path: &[u8]) -> Result<Vec<u8>,
         return Err(ReportFault::NoPath);
     };
     match tree.node(usize::from(number)) {
-        Some(Node {
-            kind: NodeKind::File { bytes },
-            ..
-        }) => Ok(Vec::from_slice(alloc, bytes.as_slice())?),
+        Some(
+            Node {
+                kind: NodeKind::File { bytes },
+                ..
+            },
+        ) => Ok(Vec::from_slice(alloc, bytes.as_slice())?),
         _ => Err(ReportFault::NoFile),
     }
 }

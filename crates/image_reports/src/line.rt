@@ -46,12 +46,7 @@ fn write_details<W: Write>(
     write!(out, "{word} {count} {size} {number} ")
 }
 
-fn write_node<W: Write>(
-    out: &mut W,
-    version: Version,
-    tree: &Tree,
-    number: u16,
-) -> io::Result<()>
+fn write_node<W: Write>(out: &mut W, version: Version, tree: &Tree, number: u16) -> io::Result<()>
     ensures { OnOk result (Appends (W.contents out.old) (W.contents out.new)
         (node_details version number ((tree_of tree.now).nodes number))) }
 {

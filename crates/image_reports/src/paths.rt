@@ -3,9 +3,9 @@ ghost use Rattle.std.specs.Prelude.{◌≡◌, ◌++◌, ◌∷◌, IfOk};
 ghost use Rattle.image_reports.specs.Vocabulary.{elements, follow, root, tree_of};
 ghost use Rattle.image_reports.specs.Paths.{path_of};
 
+use image_versions::Version;
 use plain_tree::paths::next_element;
 use plain_tree::{Bytes, Tree};
-use image_versions::Version;
 use std::alloc::{AllocError, Global};
 
 /// The inode of the root.

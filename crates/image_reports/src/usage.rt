@@ -125,11 +125,7 @@ fn count_marked<D: Device>(device: &mut D, layout: &Layout) -> Result<u32, Fault
 }
 
 // Examines the device as an image of this version, and counts.
-fn measure<D: Device>(
-    alloc: Global,
-    device: &mut D,
-    version: Version,
-) -> Result<Usage, MountFault>
+fn measure<D: Device>(alloc: Global, device: &mut D, version: Version) -> Result<Usage, MountFault>
     ensures { JudgesWith version
         (λ usage. IsWellFormed version (D.contents device.old) × (usage ≡ usage_of (D.contents device.old)))
         (D.contents device.old) result }
@@ -197,7 +193,10 @@ fn write_used<W: Write>(out: &mut W, usage: &Usage) -> io::Result<()>
     ensures { OnOk result (Appends (W.contents out.old) (W.contents out.new) (used_text usage.now)) }
 {
     let (front, named, unnamed) = (usage.front, usage.named, usage.unnamed);
-    write!(out, "blocks: {front} before the data, {named} of nodes with a name, {unnamed} of nodes without, ")
+    write!(
+        out,
+        "blocks: {front} before the data, {named} of nodes with a name, {unnamed} of nodes without, "
+    )
 }
 
 // The other blocks, and all.
@@ -205,7 +204,10 @@ fn write_unused<W: Write>(out: &mut W, usage: &Usage) -> io::Result<()>
     ensures { OnOk result (Appends (W.contents out.old) (W.contents out.new) (unused_text usage.now)) }
 {
     let (lost, free, total) = (usage.lost(), usage.free_blocks(), usage.blocks);
-    writeln!(out, "{lost} marked and named by nothing, {free} free, {total} in total")
+    writeln!(
+        out,
+        "{lost} marked and named by nothing, {free} free, {total} in total"
+    )
 }
 
 // The inodes of nodes.
@@ -213,7 +215,10 @@ fn write_nodes<W: Write>(out: &mut W, usage: &Usage) -> io::Result<()>
     ensures { OnOk result (Appends (W.contents out.old) (W.contents out.new) (nodes_text usage.now)) }
 {
     let (live, orphans) = (usage.live, usage.orphans);
-    write!(out, "inodes: {live} of nodes with a name, {orphans} of nodes without, ")
+    write!(
+        out,
+        "inodes: {live} of nodes with a name, {orphans} of nodes without, "
+    )
 }
 
 // The other inodes, and all.
@@ -235,11 +240,7 @@ fn write_lines<W: Write>(out: &mut W, usage: &Usage) -> io::Result<()>
 }
 
 /// Writes the lines of an image's blocks and inodes. A refused image writes nothing.
-pub fn write_usage<W: Write>(
-    alloc: Global,
-    image: Vec<u8>,
-    out: &mut W,
-) -> Result<(), ReportFault>
+pub fn write_usage<W: Write>(alloc: Global, image: Vec<u8>, out: &mut W) -> Result<(), ReportFault>
     ensures tells { OnOk result (TellsUsage (blocks_of image.items) (W.contents out.old) (W.contents out.new)) }
     ensures refused { IfErr result (RefusesImage (blocks_of image.items)) }
     ensures silent { IfErr result (IsSilent (W.contents out.old) (W.contents out.new)) }

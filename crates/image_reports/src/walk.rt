@@ -18,11 +18,7 @@ use std::io::Write;
 fn further(slots: &[Option<Slot>]) -> &[Option<Slot>]
     ensures { result.now ≡ drop 2 slots.now }
 {
-    if slots.len() > 2 {
-        &slots[2..]
-    } else {
-        &[]
-    }
+    if slots.len() > 2 { &slots[2..] } else { &[] }
 }
 
 // Puts what the slot names on top.
@@ -78,7 +74,12 @@ fn push_below(
     };
     match &node.kind {
         NodeKind::Directory { slots } => {
-            push_slots(alloc, pending, item.path.as_slice(), further(slots.as_slice()))
+            push_slots(
+                alloc,
+                pending,
+                item.path.as_slice(),
+                further(slots.as_slice()),
+            )
         }
         _ => Ok(()),
     }

@@ -6,5 +6,5 @@ use Rattle.image_reports.proofs.usage.count_marked.Given as goal
 abbrev pub invariant-loop-b : goal.invariant-loop-b
 invariant-loop-b g l = record {
   counted : l.marked ≡ count_upto (is_marked_data (g.D.Device.contents l.fn.device)) (l.b - 1);
-  few : l.marked ≤ l.b - 1
+  few : l.marked ≤ l.b - 1;
 }

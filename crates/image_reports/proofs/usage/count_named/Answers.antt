@@ -9,7 +9,7 @@ loop-i-init g c = record { same = refl; counted = none_gathered (blocks_by (g.D.
 pub loop-i-preserved : goal.loop-i-preserved
 loop-i-preserved g c =
     let one : c.in_ok-blocks.field-0 ≡ length (blocks_by (g.D.Device.contents c.args.device.now) c.args.live c.loop-i.i) =
-        c.in_ok-blocks.ensures.blocks ∙ ap (λ disk. length (blocks_by disk c.args.live c.loop-i.i)) c.loop-i.invariant.same in
+    c.in_ok-blocks.ensures.blocks ∙ ap (λ disk. length (blocks_by disk c.args.live c.loop-i.i)) c.loop-i.invariant.same in
     let few : c.in_ok-blocks.field-0 ≤ 269 = c.in_ok-blocks.ensures.few in
     let had : c.loop-i.blocks ≤ 269 * (c.loop-i.i - 1) = c.loop-i.invariant.few in
     let low : 1 ≤ c.loop-i.i = c.loop-i.auto.i in
