@@ -1,11 +1,10 @@
 -- The listing that a walk has begun, with the items that wait.
-use Rattle.std.proofs.Common.{◌≡◌, ℕ, Bool, List, [], ◌∷◌, ◌++◌, reverse, Option, refl, ap, sym, ◌∙◌, subst, append_assoc}
+use Rattle.std.proofs.Common.{◌≡◌, ℕ, Bool, List, [], ◌∷◌, ◌++◌, Option, refl, ap, sym, ◌∙◌, subst, append_assoc}
 use Rattle.image_reports.specs.Vocabulary.{Appends, Node, Version}
 use Rattle.image_reports.specs.Lines.{line_of}
 use Rattle.image_reports.specs.Listing.{Listed, Lists, ended, item_first, below}
 use Rattle.image_reports.specs.declared.item.Item.{Item}
 use Rattle.image_reports.proofs.Appending.{appends_both, appends_nothing}
-use Rattle.image_reports.proofs.Pending.{reverse_push}
 
 -- a listing whose first item this is
 record First (v : Version) (nodes : ℕ → Option Node) (long : Bool) (item : Item) (items : List Item) (text : List ℕ) : Type 0 where
@@ -73,11 +72,11 @@ walk_turn v nodes long start item waiting rest more out now next walked top told
       appended = appends_both out now next walked.printed line walked.appended told;
       goes_on = λ text given.
           let h : Halves v nodes long (below nodes item) rest text =
-              halves v nodes long (below nodes item) rest text (subst (λ items. Lists v nodes long items text) pushed given) in
+          halves v nodes long (below nodes item) rest text (subst (λ items. Lists v nodes long items text) pushed given) in
           let first : Lists v nodes long (item ∷ rest) (line ++ h.first ++ h.second) =
-              item_first item rest h.first h.second h.lists_first h.lists_second in
+          item_first item rest h.first h.second h.lists_first h.lists_second in
           let whole : Lists v nodes long (start ∷ []) (walked.printed ++ (line ++ h.first ++ h.second)) =
-              walked.goes_on _ (subst (λ items. Lists v nodes long items (line ++ h.first ++ h.second)) (sym top) first) in
+          walked.goes_on _ (subst (λ items. Lists v nodes long items (line ++ h.first ++ h.second)) (sym top) first) in
           let same : line ++ h.first ++ h.second ≡ line ++ text = append_assoc line h.first h.second ∙ ap (λ l. line ++ l) (sym h.whole) in
           subst (λ l. Lists v nodes long (start ∷ []) l) (ap (λ l. walked.printed ++ l) same ∙ sym (append_assoc walked.printed line text)) whole;
     }

@@ -1,6 +1,6 @@
 -- Paths from the root.
 use Rattle.std.specs.Prelude.{ℕ, List, ◌∷◌, Option}
-use Rattle.image_reports.specs.Vocabulary.{Version, elements, flat_map, follow, root, tree_in, tree_of, version_in}
+use Rattle.image_reports.specs.Vocabulary.{elements, flat_map, follow, root, tree_in, tree_of, version_in}
 
 -- the elements, each after a '/'
 abbrev pub path_of : List (List ℕ) → List ℕ

@@ -1,5 +1,5 @@
 -- What an image's blocks and inodes are used for.
-use Rattle.std.specs.Prelude.{◌≡◌, ℕ, ◌+◌, ◌-◌, nat_lt, Bool, true, false, ◌&&◌, not, if◌then◌else◌, List, [], ◌++◌, length, Option, codes, decimal}
+use Rattle.std.specs.Prelude.{ℕ, ◌+◌, ◌-◌, nat_lt, Bool, true, false, ◌&&◌, not, if◌then◌else◌, List, [], ◌++◌, length, Option, codes, decimal}
 use Rattle.image_reports.specs.Vocabulary.{Appends, Dinode, IsWellFormed, count_upto, gathered, inode_of, is_live, is_live_node, is_marked, is_orphan, last, named_by, sizes_of, version_in}
 use Rattle.image_reports.specs.declared.usage.Usage.{Usage}
 

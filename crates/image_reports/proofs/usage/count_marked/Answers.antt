@@ -1,4 +1,4 @@
-use Rattle.std.proofs.Common.{rules, arith, ◌≡◌, ◌≤◌, ◌+◌, ◌-◌, ◌∙◌, cond, ℕ, ap, refl}
+use Rattle.std.proofs.Common.{rules, arith, ◌≡◌, ◌≤◌, ◌-◌, cond}
 use Rattle.image_reports.specs.Usage.{is_marked_data}
 use Rattle.image_reports.proofs.Counting.{none_counted, one_counted, at_most_one}
 use Rattle.image_reports.proofs.usage.count_marked.Goals as goal

@@ -1,4 +1,4 @@
-use Rattle.std.proofs.Common.{rules, arith, ◌≡◌, ◌≤◌, ◌+◌, ◌-◌, ◌*◌, ◌∙◌, ap, refl, length}
+use Rattle.std.proofs.Common.{arith, ◌≡◌, ◌≤◌, ◌-◌, ◌*◌, ◌∙◌, ap, refl, length}
 use Rattle.image_reports.specs.Usage.{blocks_by}
 use Rattle.image_reports.proofs.Counting.{none_gathered, one_gathered}
 use Rattle.image_reports.proofs.usage.count_named.Goals as goal

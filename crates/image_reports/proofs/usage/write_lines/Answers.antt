@@ -1,4 +1,4 @@
-use Rattle.std.proofs.Common.{rules, ◌≡◌, ◌++◌, append_assoc, refl, OnOk}
+use Rattle.std.proofs.Common.{rules, ◌++◌, refl}
 use Rattle.image_reports.specs.Vocabulary.{Appends}
 use Rattle.image_reports.specs.Usage.{used_text, unused_text, nodes_text, free_text}
 use Rattle.image_reports.proofs.Appending.{appends_both, tells_both}

@@ -1,6 +1,5 @@
-use Rattle.std.proofs.Common.{rules, ◌≡◌, List, ℕ, subst, OnOk}
-use Rattle.image_reports.specs.Vocabulary.{Appends, IsWellFormed, blocks_of, version_in}
-use Rattle.image_reports.specs.Usage.{usage_of, usage_text}
+use Rattle.std.proofs.Common.{rules}
+use Rattle.image_reports.specs.Vocabulary.{blocks_of}
 use Rattle.image_reports.proofs.Counting.{tells_usage}
 use Rattle.image_reports.proofs.usage.write_usage.Goals as goal
 

@@ -1,5 +1,4 @@
-use Rattle.std.proofs.Common.{rules, ◌≡◌, ◌++◌, List, [], ◌∷◌, ℕ, reverse, length}
-use Rattle.std.proofs.lemmas.Grind.{common_steps}
+use Rattle.std.proofs.Common.{rules, ◌≡◌, ◌++◌, [], ◌∷◌, reverse, length}
 use Rattle.image_reports.specs.Vocabulary.{Appends, tree_of}
 use Rattle.image_reports.specs.Lines.{line_of}
 use Rattle.image_reports.proofs.Pending.{none_waits, reverse_pop}
