@@ -80,21 +80,33 @@ fn file_to_make<'a>(name: &str, matches: &ArgMatches<'a>) -> Option<&'a str> {
     }
 }
 
-// Reads the image, and does what the words ask for.
-fn run<'a>(rt: &HostRuntime, name: &str, matches: &ArgMatches<'a>) -> Result<(), Fault<'a>> {
-    let file = matches.get_str(IMAGE).unwrap_or("");
-    let image = read_image(rt, file).map_err(|refused| Fault::of_image(file, refused))?;
-    let copy = Vec::from_slice(rt.alloc(), image.bytes.as_slice()).ok();
+// Does what the words ask for with the bytes of an image.
+fn serve<'a>(
+    rt: &HostRuntime,
+    name: &str,
+    matches: &ArgMatches<'a>,
+    image: Vec<u8>,
+) -> Result<(), Fault<'a>> {
     if let Some(new) = file_to_make(name, matches) {
-        let done = get_into(rt, matches, image.bytes, new);
-        return done.map_err(|fault| with_place(rt.alloc(), fault, copy));
+        return get_into(rt, matches, image, new);
     }
     let mut out = BufWriter::new(rt.alloc(), io::writer(rt)).map_err(|error| Fault::of_answers(
         error,
     ))?;
-    let done = report(rt.alloc(), name, matches, image.bytes, &mut out);
+    let done = report(rt.alloc(), name, matches, image, &mut out);
     out.flush().map_err(|error| Fault::of_answers(error))?;
-    done.map_err(|fault| with_place(rt.alloc(), fault, copy))
+    done
+}
+
+// Reads the image, and does what the words ask for. Of a damaged image the fault says where.
+fn run<'a>(rt: &HostRuntime, name: &str, matches: &ArgMatches<'a>) -> Result<(), Fault<'a>> {
+    let file = matches.get_str(IMAGE).unwrap_or("");
+    let image = read_image(rt, file).map_err(|refused| Fault::of_image(file, refused))?;
+    let copy = Vec::from_slice(rt.alloc(), image.bytes.as_slice()).ok();
+    match serve(rt, name, matches, image.bytes) {
+        Ok(()) => Ok(()),
+        Err(fault) => Err(with_place(rt.alloc(), fault, copy)),
+    }
 }
 
 // Says why, in one line.
