@@ -13,6 +13,9 @@ pub enum Fault<'a> {
     /// The command line has a word that is no text.
     #[error("{0}")]
     Words(WordsRefused),
+    /// The path is no path.
+    #[error("error: invalid value '{0}' for '<PATH>': pairs of hexadecimal digits are wanted after hex:")]
+    NoDigits(&'a str),
     /// The image's file can't be read, or is too large.
     #[error("{0:?}: {1}")]
     Image(&'a str, ImageRefused),
@@ -88,7 +91,7 @@ impl<'a> Fault<'a> {
     /// The program's exit status.
     pub fn status(&self) -> u8 {
         match self {
-            Fault::Words(_) => 2,
+            Fault::Words(_) | Fault::NoDigits(_) => 2,
             Fault::Memory => 3,
             _ => 1,
         }

@@ -17,7 +17,7 @@ use crate::new_file::write_new;
 use clap::ArgMatches;
 use clap::error::ErrorKind;
 use damage_places::find_place_in;
-use image_reports::{content_at, get, list, write_usage};
+use image_reports::{content_at, get, list, path_in, write_usage};
 use mkfs::{read_image, read_words};
 use std::alloc::Global;
 use std::io;
@@ -35,17 +35,34 @@ fn with_place<'a>(alloc: Global, fault: Fault<'a>, image: Option<Vec<u8>>) -> Fa
     }
 }
 
+// The path that the words have, as they write it; the root's, if they have none.
+fn path_word<'a>(name: &str, matches: &ArgMatches<'a>) -> &'a str {
+    if name == USAGE {
+        return "/";
+    }
+    matches.get_str(PATH).unwrap_or("/")
+}
+
+// The path that this word says.
+fn path_bytes<'a>(alloc: Global, word: &'a str) -> Result<Vec<u8>, Fault<'a>> {
+    match path_in(alloc, word.as_bytes())? {
+        Some(path) => Ok(path),
+        None => Err(Fault::NoDigits(word)),
+    }
+}
+
 // Writes the file's bytes to a new file of the host.
 fn get_into<'a>(
     rt: &HostRuntime,
     matches: &ArgMatches<'a>,
     image: Vec<u8>,
+    path: &[u8],
     new: &'a str,
 ) -> Result<(), Fault<'a>> {
     let file = matches.get_str(IMAGE).unwrap_or("");
-    let path = matches.get_str(PATH).unwrap_or("/");
-    let content = content_at(rt.alloc(), image, path.as_bytes()).map_err(|fault| Fault::of_report(
-        file, path, fault,
+    let word = path_word(GET, matches);
+    let content = content_at(rt.alloc(), image, path).map_err(|fault| Fault::of_report(
+        file, word, fault,
     ))?;
     write_new(rt, new, content.as_slice()).map_err(|error| Fault::of_file(new, error))
 }
@@ -56,19 +73,20 @@ fn report<'a, W: Write>(
     name: &str,
     matches: &ArgMatches<'a>,
     image: Vec<u8>,
+    path: &[u8],
     out: &mut W,
 ) -> Result<(), Fault<'a>> {
     let file = matches.get_str(IMAGE).unwrap_or("");
     if name == USAGE {
         return write_usage(alloc, image, out).map_err(|fault| Fault::of_report(file, "", fault));
     }
-    let path = matches.get_str(PATH).unwrap_or("/");
+    let word = path_word(name, matches);
     let done = if name == LIST {
-        list(alloc, image, path.as_bytes(), matches.get_flag(LONG), out)
+        list(alloc, image, path, matches.get_flag(LONG), out)
     } else {
-        get(alloc, image, path.as_bytes(), out)
+        get(alloc, image, path, out)
     };
-    done.map_err(|fault| Fault::of_report(file, path, fault))
+    done.map_err(|fault| Fault::of_report(file, word, fault))
 }
 
 // The host's file that is to be made, if one is.
@@ -86,24 +104,26 @@ fn serve<'a>(
     name: &str,
     matches: &ArgMatches<'a>,
     image: Vec<u8>,
+    path: &[u8],
 ) -> Result<(), Fault<'a>> {
     if let Some(new) = file_to_make(name, matches) {
-        return get_into(rt, matches, image, new);
+        return get_into(rt, matches, image, path, new);
     }
     let mut out = BufWriter::new(rt.alloc(), io::writer(rt)).map_err(|error| Fault::of_answers(
         error,
     ))?;
-    let done = report(rt.alloc(), name, matches, image, &mut out);
+    let done = report(rt.alloc(), name, matches, image, path, &mut out);
     out.flush().map_err(|error| Fault::of_answers(error))?;
     done
 }
 
 // Reads the image, and does what the words ask for. Of a damaged image the fault says where.
 fn run<'a>(rt: &HostRuntime, name: &str, matches: &ArgMatches<'a>) -> Result<(), Fault<'a>> {
+    let path = path_bytes(rt.alloc(), path_word(name, matches))?;
     let file = matches.get_str(IMAGE).unwrap_or("");
     let image = read_image(rt, file).map_err(|refused| Fault::of_image(file, refused))?;
     let copy = Vec::from_slice(rt.alloc(), image.bytes.as_slice()).ok();
-    match serve(rt, name, matches, image.bytes) {
+    match serve(rt, name, matches, image.bytes, path.as_slice()) {
         Ok(()) => Ok(()),
         Err(fault) => Err(with_place(rt.alloc(), fault, copy)),
     }

@@ -2,3 +2,4 @@ pub mod Appending
 pub mod Pending
 pub mod Walking
 pub mod Counting
+pub mod Pairs

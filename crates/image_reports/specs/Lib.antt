@@ -6,3 +6,4 @@ pub mod Listing
 pub mod Files
 pub mod Faults
 pub mod Usage
+pub mod Words

@@ -1,6 +1,7 @@
 -- What the crates below call things: the words that this crate's definitions and contracts use.
 pub use Rattle.std.specs.Io.KnownBytes.{Appends}
-pub use Rattle.std.specs.List.{flat_map, list_all}
+pub use Rattle.std.specs.List.{flat_map, list_all, starts_with}
+pub use Rattle.std.specs.Option.{option_map}
 pub use Rattle.block_device.specs.Blocks.{blocks_of}
 pub use Rattle.fs_layout.specs.Recovered.{version_in}
 pub use Rattle.image_versions.specs.declared.version.Version.{Version}

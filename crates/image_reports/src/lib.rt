@@ -14,6 +14,7 @@ mod rows;
 mod shown;
 mod usage;
 mod walk;
+mod words;
 
 pub use crate::fault::ReportFault;
 pub use crate::file::{content_at, get};
@@ -22,3 +23,4 @@ pub use crate::listing::list;
 pub use crate::opened::{Opened, open_image};
 pub use crate::usage::{Usage, find_usage, write_usage};
 pub use crate::walk::write_below;
+pub use crate::words::{path_in, shown_paths_are_read};
