@@ -2,7 +2,7 @@
 use Rattle.std.proofs.Common.{◌≡◌, ℕ, Bool, List, [], ◌∷◌, ◌++◌, Option, refl, ap, sym, ◌∙◌, subst, append_assoc}
 use Rattle.image_reports.specs.Vocabulary.{Appends, Node, Version}
 use Rattle.image_reports.specs.Lines.{line_of}
-use Rattle.image_reports.specs.Listing.{Listed, Lists, ended, item_first, below}
+use Rattle.image_reports.specs.Listing.{Listed, Lists, OneListing, ended, item_first, below}
 use Rattle.image_reports.specs.declared.item.Item.{Item}
 use Rattle.image_reports.proofs.Appending.{appends_both, appends_nothing}
 
@@ -22,6 +22,18 @@ seen : (v : Version) (nodes : ℕ → Option Node) (long : Bool) {items : List I
     → Seen v nodes long items text
 seen v nodes long ended = refl
 seen v nodes long (item_first item items inside after i a) = record { inside = inside; after = after; lists_inside = i; lists_after = a; whole = refl }
+
+one_listing_of : (v : Version) (nodes : ℕ → Option Node) (long : Bool) {items : List Item} {text : List ℕ} (other : List ℕ)
+    → Lists v nodes long items text → Lists v nodes long items other → text ≡ other
+one_listing_of v nodes long other ended given = sym (seen v nodes long given)
+one_listing_of v nodes long other (item_first item items inside after i a) given =
+    let w : First v nodes long item items other = seen v nodes long given in
+    let line : List ℕ = line_of v nodes long item in
+    ap (λ l. line ++ l ++ after) (one_listing_of v nodes long w.inside i w.lists_inside)
+    ∙ ap (λ l. line ++ w.inside ++ l) (one_listing_of v nodes long w.after a w.lists_after) ∙ sym w.whole
+
+pub one_listing : OneListing
+one_listing v nodes long items text other first second = one_listing_of v nodes long other first second
 
 -- a listing of some items and then of others
 record Halves (v : Version) (nodes : ℕ → Option Node) (long : Bool) (xs ys : List Item) (text : List ℕ) : Type 0 where

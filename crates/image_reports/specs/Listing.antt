@@ -20,6 +20,11 @@ pub data Lists (v : Version) (nodes : ℕ → Option Node) (long : Bool) : List 
   item_first : (item : Item) (items : List Item) (inside after : List ℕ) → Lists v nodes long (below nodes item) inside
       → Lists v nodes long items after → Lists v nodes long (item ∷ items) (line_of v nodes long item ++ inside ++ after)
 
+-- some items have one listing at most
+abbrev pub OneListing : Type 0
+OneListing = (v : Version) (nodes : ℕ → Option Node) (long : Bool) (items : List Item) (text other : List ℕ)
+    → Lists v nodes long items text → Lists v nodes long items other → text ≡ other
+
 -- the writer got the listing from this item on
 pub record Listed (v : Version) (nodes : ℕ → Option Node) (long : Bool) (start : Item) (out out' : Option (List ℕ)) : Type 0 where
   pub text : List ℕ

@@ -22,5 +22,5 @@ pub use crate::item::Item;
 pub use crate::listing::list;
 pub use crate::opened::{Opened, open_image};
 pub use crate::usage::{Usage, find_usage, write_usage};
-pub use crate::walk::write_below;
+pub use crate::walk::{listings_are_one, write_below};
 pub use crate::words::{path_in, shown_paths_are_read};

@@ -2,7 +2,7 @@
 ghost use Rattle.std.specs.Prelude.{◌≡◌, ◌++◌, drop, reverse, IfErr, OnOk};
 ghost use Rattle.image_reports.specs.Vocabulary.{flat_map, tree_of};
 ghost use Rattle.image_reports.specs.Faults.{IsOfWriting};
-ghost use Rattle.image_reports.specs.Listing.{Listed, below, named_at};
+ghost use Rattle.image_reports.specs.Listing.{Listed, OneListing, below, named_at};
 
 use crate::fault::ReportFault;
 use crate::item::Item;
@@ -108,3 +108,8 @@ pub fn write_below<W: Write>(
     }
     Err(ReportFault::TooLong)
 }
+
+/// A listing is one text: no other is a listing of the same tree. The function does nothing: it carries the law.
+pub fn listings_are_one()
+    ensures { OneListing }
+{}
