@@ -22,7 +22,7 @@ pub enum Fault<'a> {
     /// The image isn't taken.
     #[error("{0:?}: {1}")]
     Refused(&'a str, ReportFault),
-    /// The image is damaged, and where.
+    /// The image is damaged, at this place.
     #[error("{0:?}: {1}: {2}")]
     Damaged(&'a str, ReportFault, Place),
     /// There is no such path in the image.

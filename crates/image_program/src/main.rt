@@ -2,9 +2,12 @@
 //! `image get IMAGE PATH [FILE]`: a file's bytes.
 //! `image usage IMAGE`: what its blocks and inodes are used for.
 //!
-//! It looks into an image, and never writes to one. Faults are reported in this order: the command line (status 2);
-//! an IMAGE that can't be read or isn't taken, a path that isn't there, and what can't be written (status 1). Want of
-//! memory is reported when it comes (status 3).
+//! It looks into an image, and never writes to one. Faults are reported in this order:
+//! - the command line (status 2);
+//! - an IMAGE that can't be read or isn't taken (status 1);
+//! - a path that isn't there, and what can't be written (status 1).
+//!
+//! Want of memory is reported when it comes (status 3).
 #![tactic(auto)]
 
 mod command_line;
