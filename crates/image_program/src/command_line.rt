@@ -22,6 +22,15 @@ pub const GET: &str = "get";
 /// What blocks and inodes are used for.
 pub const USAGE: &str = "usage";
 
+/// The fields of a part.
+pub const DUMP: &str = "dump";
+
+/// Which part.
+pub const PART: &str = "part";
+
+/// Of which inode.
+pub const NUMBER: &str = "number";
+
 /// The image.
 pub const IMAGE: &str = "image";
 
@@ -84,6 +93,18 @@ fn usage<'a>(alloc: Global) -> Result<Command<'a>, AllocError> {
         .arg(image(alloc))
 }
 
+fn dump<'a>(alloc: Global) -> Result<Command<'a>, AllocError> {
+    Command::new(alloc, DUMP)
+        .about(
+            "Prints the fields of the superblock, of the log, of an inode, or a directory's slots",
+        )
+        .arg(image(alloc))?
+        .arg(positional(alloc, PART, "PART", "superblock, log, inode or directory").required(true))?
+        .arg(positional(alloc, NUMBER, "NUMBER", "Of which inode or directory").value_parser(
+            clap::value_parser!(u32),
+        ))
+}
+
 fn command<'a>(alloc: Global) -> Result<Command<'a>, AllocError> {
     Command::new(alloc, NAME)
         .about("Looks into an image of a file system, and writes nothing to it")
@@ -95,7 +116,8 @@ fn command<'a>(alloc: Global) -> Result<Command<'a>, AllocError> {
         .bin_name(NAME)?
         .subcommand(list(alloc)?)?
         .subcommand(get(alloc)?)?
-        .subcommand(usage(alloc)?)
+        .subcommand(usage(alloc)?)?
+        .subcommand(dump(alloc)?)
 }
 
 /// Reads a command line, the program's name first.

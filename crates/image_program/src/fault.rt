@@ -16,6 +16,9 @@ pub enum Fault<'a> {
     /// The path is no path.
     #[error("error: invalid value '{0}' for '<PATH>': pairs of hexadecimal digits are wanted after hex:")]
     NoDigits(&'a str),
+    /// There is no such part.
+    #[error("error: invalid value '{0}' for '<PART>': superblock, log, inode NUMBER or directory NUMBER is wanted")]
+    NoPart(&'a str),
     /// The image's file can't be read, or is too large.
     #[error("{0:?}: {1}")]
     Image(&'a str, ImageRefused),
@@ -73,7 +76,10 @@ impl<'a> Fault<'a> {
     pub fn of_report(image: &'a str, path: &'a str, fault: ReportFault) -> Fault<'a> {
         match fault {
             ReportFault::Memory => Fault::Memory,
-            ReportFault::NoPath | ReportFault::NoFile => Fault::Path(image, path, fault),
+            ReportFault::NoPath
+            | ReportFault::NoFile
+            | ReportFault::NoInode
+            | ReportFault::NoDirectory => Fault::Path(image, path, fault),
             ReportFault::Write(error) => Fault::of_answers(error),
             ReportFault::TooLong => Fault::Report(fault),
             fault => Fault::Refused(image, fault),
@@ -91,7 +97,7 @@ impl<'a> Fault<'a> {
     /// The program's exit status.
     pub fn status(&self) -> u8 {
         match self {
-            Fault::Words(_) | Fault::NoDigits(_) => 2,
+            Fault::Words(_) | Fault::NoDigits(_) | Fault::NoPart(_) => 2,
             Fault::Memory => 3,
             _ => 1,
         }

@@ -1,6 +1,7 @@
 //! `image list IMAGE [PATH] [--long]`: a line for each name of the image's tree.
 //! `image get IMAGE PATH [FILE]`: a file's bytes.
 //! `image usage IMAGE`: what its blocks and inodes are used for.
+//! `image dump IMAGE PART [NUMBER]`: the fields of a part.
 //!
 //! It looks into an image, and never writes to one. Faults are reported in this order:
 //! - the command line (status 2);
@@ -13,10 +14,12 @@
 mod command_line;
 mod fault;
 mod new_file;
+mod part;
 
-use crate::command_line::{FILE, GET, IMAGE, LIST, LONG, PATH, USAGE, options};
+use crate::command_line::{DUMP, FILE, GET, IMAGE, LIST, LONG, NUMBER, PATH, USAGE, options};
 use crate::fault::Fault;
 use crate::new_file::write_new;
+use crate::part::{dump, part_in};
 use clap::ArgMatches;
 use clap::error::ErrorKind;
 use damage_places::find_place_in;
@@ -40,7 +43,7 @@ fn with_place<'a>(alloc: Global, fault: Fault<'a>, image: Option<Vec<u8>>) -> Fa
 
 // The path that the words have, as they write it; the root's, if they have none.
 fn path_word<'a>(name: &str, matches: &ArgMatches<'a>) -> &'a str {
-    if name == USAGE {
+    if name == USAGE || name == DUMP {
         return "/";
     }
     matches.get_str(PATH).unwrap_or("/")
@@ -83,6 +86,11 @@ fn report<'a, W: Write>(
     if name == USAGE {
         return write_usage(alloc, image, out).map_err(|fault| Fault::of_report(file, "", fault));
     }
+    if name == DUMP {
+        let word = matches.get_str(NUMBER).unwrap_or("");
+        let done = dump(alloc, image, part_in(matches)?, out);
+        return done.map_err(|fault| Fault::of_report(file, word, fault));
+    }
     let word = path_word(name, matches);
     let done = if name == LIST {
         list(alloc, image, path, matches.get_flag(LONG), out)
@@ -122,6 +130,9 @@ fn serve<'a>(
 
 // Reads the image, and does what the words ask for. Of a damaged image the fault says where.
 fn run<'a>(rt: &HostRuntime, name: &str, matches: &ArgMatches<'a>) -> Result<(), Fault<'a>> {
+    if name == DUMP {
+        part_in(matches)?;
+    }
     let path = path_bytes(rt.alloc(), path_word(name, matches))?;
     let file = matches.get_str(IMAGE).unwrap_or("");
     let image = read_image(rt, file).map_err(|refused| Fault::of_image(file, refused))?;

@@ -1,6 +1,7 @@
 -- What is counted of the first inodes and the first blocks.
 use Rattle.std.proofs.Common.{◌≡◌, ◌∙◌, ap, sym, refl, ℕ, suc, ◌+◌, ◌-◌, ◌≤◌, Bool, true, false, cond, List, length, arith, length-append, ◌++◌, Option, Result, Ok, Err, OnOk, subst}
-use Rattle.image_reports.specs.Vocabulary.{Appends, IsWellFormed, count_upto, gathered, version_in}
+use Rattle.image_reports.specs.Vocabulary.{Appends, IsWellFormed, count_upto, gathered, logged, version_in}
+use Rattle.image_reports.specs.Parts.{Prints, log_text}
 use Rattle.image_reports.specs.Usage.{TellsUsage, usage_of, usage_text}
 use Rattle.image_reports.specs.declared.usage.Usage.{Usage}
 
@@ -40,3 +41,10 @@ pub tells_usage : {E : Type 0} (disk : List (List ℕ)) (usage : Usage) (out out
 tells_usage disk usage out out' (Ok u) good is printed =
     record { good = good; printed = subst (λ u. Appends out out' (usage_text u)) is printed }
 tells_usage disk usage out out' (Err e) good is printed = tt
+
+pub prints_log : {E : Type 0} (disk : List (List ℕ)) (blocks : List ℕ) (out out' : Option (List ℕ)) (result : Result (Unit {0}) E)
+    → IsWellFormed (version_in disk) disk → blocks ≡ logged disk → OnOk result (Appends out out' (log_text blocks))
+    → OnOk result (Prints disk (log_text (logged disk)) out out')
+prints_log disk blocks out out' (Ok u) good is printed =
+    record { good = good; printed = subst (λ blocks. Appends out out' (log_text blocks)) is printed }
+prints_log disk blocks out out' (Err e) good is printed = tt

@@ -7,3 +7,4 @@ pub mod Files
 pub mod Faults
 pub mod Usage
 pub mod Words
+pub mod Parts

@@ -19,7 +19,7 @@ pub use Rattle.plain_tree.specs.declared.node.NodeKind.TheVariants.{Device, Dire
 pub use Rattle.plain_tree.specs.declared.node.Slot.{Slot}
 pub use Rattle.std.specs.Prelude.{filter}
 pub use Rattle.fs_layout.specs.declared.inode.Dinode.{Dinode}
-unfoldable pub use Rattle.fs_layout.specs.Recovered.{sizes_of}
+unfoldable pub use Rattle.fs_layout.specs.Recovered.{logged, sizes_of}
 pub use Rattle.image_tree.specs.Checks.{HasGoodNumbers, is_marked}
 pub use Rattle.image_tree.specs.Inodes.{is_block, is_live, last, named_by}
 unfoldable pub use Rattle.image_tree.specs.Inodes.{inode_of}
@@ -27,3 +27,6 @@ pub use Rattle.image_tree.specs.Layout.{IsLayout}
 unfoldable pub use Rattle.image_tree.specs.Lists.{count_upto, gathered}
 pub use Rattle.image_tree.specs.Shape.{is_live_node, is_orphan}
 pub use Rattle.fs_layout.specs.Bits.{bit_of}
+pub use Rattle.fs_layout.specs.declared.superblock.Super.{Super}
+pub use Rattle.image_versions.specs.Versions.{number_of}
+pub use Rattle.std.specs.Fmt.{signed_decimal}

@@ -18,6 +18,12 @@ pub enum ReportFault {
     /// The path names a directory or a device.
     #[error("not a file")]
     NoFile,
+    /// The number is above those of the image's inodes.
+    #[error("no such inode in the image")]
+    NoInode,
+    /// The number is no directory's that has a name.
+    #[error("not a directory of the image's tree")]
+    NoDirectory,
     /// The report can't be written.
     #[error("the report can't be written: {0}")]
     Write(io::Error),

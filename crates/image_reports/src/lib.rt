@@ -1,9 +1,11 @@
-//! Reports about an image: the tree that it holds as lines, and the bytes of its files.
+//! Reports about an image: the tree that it holds as lines, the bytes of its files, and the fields of its parts.
 //!
 //! An image is examined first, and only read. A path begins at the root, with a '/' or without.
 #![tactic(auto)]
 
+mod dump;
 mod fault;
+mod fields;
 mod file;
 mod item;
 mod line;
@@ -16,6 +18,7 @@ mod usage;
 mod walk;
 mod words;
 
+pub use crate::dump::{dump_directory, dump_inode, dump_log, dump_super};
 pub use crate::fault::ReportFault;
 pub use crate::file::{content_at, get};
 pub use crate::item::Item;
