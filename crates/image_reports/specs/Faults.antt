@@ -38,7 +38,7 @@ RefusesImage disk NoFile = ⊥
 RefusesImage disk NoInode = ⊥
 RefusesImage disk NoDirectory = ⊥
 RefusesImage disk (Write error) = ⊤
-RefusesImage disk TooLong = ⊤
+RefusesImage disk TooLong = ⊥
 RefusesImage disk Memory = ⊤
 
 -- it is no refusal of the image or of the path

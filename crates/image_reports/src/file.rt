@@ -1,5 +1,5 @@
 //! The bytes of a file of an image.
-ghost use Rattle.std.specs.Prelude.{IfErr, IfOk, OnOk};
+ghost use Rattle.std.specs.Prelude.{◌≢◌, Err, IfErr, IfOk, OnOk};
 ghost use Rattle.image_reports.specs.Vocabulary.{blocks_of};
 ghost use Rattle.image_reports.specs.Faults.{IsSilent, Refuses};
 ghost use Rattle.image_reports.specs.Files.{GetsFile, IsFileOf};
@@ -15,6 +15,7 @@ use std::io::Write;
 pub fn content_at(alloc: Global, image: Vec<u8>, path: &[u8]) -> Result<Vec<u8>, ReportFault>
     ensures content { IfOk result (λ bytes. IsFileOf (blocks_of image.items) path.now bytes.items) }
     ensures refused { IfErr result (Refuses (blocks_of image.items) path.now) }
+    ensures ends { result ≢ Err ReportFault.TooLong }
 {
     let Opened { version, tree } = open_image(alloc, image)?;
     let Some(number) = resolve(&tree, version, path) else {
@@ -40,6 +41,7 @@ pub fn get<W: Write>(
 ) -> Result<(), ReportFault>
     ensures gets { OnOk result (GetsFile (blocks_of image.items) path.now (W.contents out.old) (W.contents out.new)) }
     ensures refused { IfErr result (Refuses (blocks_of image.items) path.now) }
+    ensures ends { result ≢ Err ReportFault.TooLong }
     ensures silent { IfErr result (IsSilent (W.contents out.old) (W.contents out.new)) }
 {
     let bytes = content_at(alloc, image, path)?;
